@@ -1,0 +1,5 @@
+pub mod Cause
+pub mod Files
+pub mod Log
+pub mod Reads
+pub mod Told
