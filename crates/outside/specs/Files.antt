@@ -1,5 +1,6 @@
 -- The files of a run, and what a store may say of one.
-use Rattle.std.specs.Prelude.{◌≡◌, ◌≢◌, ◌==◌, ◌&&◌, ℕ, ◌+◌, ◌<◌, ◌≤◌, Bool, true, false, cond, List, [], ◌∷◌, length, Option, Some, None, option_map, IsSome, All, AllPairs, slice_get}
+use Rattle.std.specs.Prelude.{◌≡◌, ◌≢◌, ℕ, ◌+◌, ◌<◌, ◌≤◌, cond, List, [], ◌∷◌, length, Option, Some, None, option_map, IsSome, All, AllPairs, slice_get}
+use Rattle.std.specs.Str.{bytes_eq}
 use Rattle.outside.specs.declared.file_ref.FileRef.{FileRef}
 use Rattle.outside.specs.declared.file_ref.FileRange.{FileRange}
 
@@ -16,18 +17,11 @@ pub record AreFiles (files : Files) : Type 0 where
   pub distinct : AllPairs (λ (f g : File). f.0 ≢ g.0) files
   pub bytes : All (λ (f : File). All (λ b. b < 256) f.1) files
 
--- whether two names are the same
-abbrev pub same_name : List ℕ → List ℕ → Bool
-same_name [] [] = true
-same_name [] (y ∷ ys) = false
-same_name (x ∷ xs) [] = false
-same_name (x ∷ xs) (y ∷ ys) = (x == y) && same_name xs ys
-
 -- the file of that name, where its number is counted from `number`
 abbrev pub found_from : ℕ → List ℕ → Files → Option FileRef
 found_from number name [] = None
 found_from number name (f ∷ fs) =
-    cond (same_name f.0 name) (Some (record { number = number; len = length f.1 })) (found_from (number + 1) name fs)
+    cond (bytes_eq f.0 name) (Some (record { number = number; len = length f.1 })) (found_from (number + 1) name fs)
 
 -- the file of that name: its place in the list, and its length
 abbrev pub file_named : List ℕ → Files → Option FileRef

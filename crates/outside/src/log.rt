@@ -1,5 +1,5 @@
 //! A list of what was done, told as long as there is room for it.
-ghost use Rattle.std.specs.Prelude.{◌≡◌, [], IfOk};
+ghost use Rattle.std.specs.Prelude.{◌≡◌, [], Some, IfOk, option_copied};
 ghost use Rattle.outside.specs.Log.{told_within};
 
 use crate::NoMemory;
@@ -51,6 +51,17 @@ impl<T: Copy> Log<T> {
         }
         if self.items.extend_from_slice(more).is_err() {
             self.told = false;
+        }
+    }
+
+    /// The items that it tells.
+    pub fn items(&self) -> Option<&[T]>
+        ensures { option_copied result ≡ self.now.0 }
+    {
+        if self.told {
+            Some(self.items.as_slice())
+        } else {
+            None
         }
     }
 }

@@ -1,5 +1,6 @@
 ghost use Rattle.std.specs.Prelude.{◌≡◌, ◌≤◌, ◌<◌, ◌++◌, ℕ, List, [], length, take, Option, Some, IfOk, OnErr};
 ghost use Rattle.outside.specs.Cause.{HasCause};
+ghost use Rattle.outside.specs.Told.{TakenFrom};
 
 use crate::Failed;
 
@@ -18,7 +19,7 @@ pub trait Source {
     fn read(&mut self, into: &mut [u8]) -> Result<usize, Failed>
         ensures fits { IfOk result (λ n. n ≤ length into.new) }
         ensures bytes { IfOk result (λ n. (bytes : List ℕ) → left self.old ≡ Some bytes
-            → ((rest : List ℕ) × (left self.new ≡ Some rest) × (bytes ≡ take n into.new ++ rest))) }
+            → TakenFrom bytes n into.new (left self.new)) }
         ensures end { IfOk result (λ n. n ≡ 0 → 0 < length into.new → (bytes : List ℕ) → left self.old ≡ Some bytes
             → bytes ≡ []) }
         ensures refused { OnErr result (left self.new ≡ left self.old) }
