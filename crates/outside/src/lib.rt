@@ -46,3 +46,6 @@ pub use sure_sink::SureSink;
 pub use sure_source::SureSource;
 pub use sure_store::SureStore;
 pub use world::World;
+
+#[cfg(test)]
+mod tests;
