@@ -1,1 +1,4 @@
 pub mod Cause
+pub mod Feed
+pub mod FeedLaws
+pub mod SliceFeed

@@ -2,5 +2,11 @@
 #![tactic(auto)]
 
 mod failed;
+mod feed;
+mod run_fault;
+mod slice_feed;
 
 pub use failed::{Failed, NoMemory};
+pub use feed::Feed;
+pub use run_fault::RunFault;
+pub use slice_feed::SliceFeed;
