@@ -1,2 +1,4 @@
 pub mod Cause
+pub mod Reading
+pub mod Runs
 pub mod Slices

@@ -1,4 +1,6 @@
 pub mod Cause
 pub mod Feed
 pub mod FeedLaws
+pub mod Reading
+pub mod Runs
 pub mod SliceFeed

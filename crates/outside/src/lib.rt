@@ -5,8 +5,10 @@ mod failed;
 mod feed;
 mod run_fault;
 mod slice_feed;
+mod exact;
 
 pub use failed::{Failed, NoMemory};
 pub use feed::Feed;
 pub use run_fault::RunFault;
 pub use slice_feed::SliceFeed;
+pub use exact::take_exactly;

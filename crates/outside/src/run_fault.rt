@@ -1,5 +1,8 @@
 //! Why runs could not be read.
 
+ghost use Rattle.std.specs.Prelude.{◌≡◌};
+ghost use Rattle.outside.specs.declared.run_fault.RunFault.TheVariants.{Read};
+
 use crate::Failed;
 
 /// What is wrong with the first run of a stream that isn't whole, judged in the order of its bytes.
@@ -15,4 +18,12 @@ pub enum RunFault {
     PatchTooWide,
     /// The feed failed. Its count of faults rose in the call that answered this first.
     Read(Failed),
+}
+
+impl From<Failed> for RunFault {
+    ghost from_gives = { λ failed fault. fault ≡ Read failed };
+
+    fn from(failed: Failed) -> RunFault {
+        RunFault::Read(failed)
+    }
 }
