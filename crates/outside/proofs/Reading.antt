@@ -1,5 +1,7 @@
 -- Reading step by step.
-use Rattle.std.proofs.Common.{◌≡◌, ℕ, ◌+◌, ◌-◌, ◌<◌, ◌≤◌, Bool, true, false, cond, leb, List, [], ◌∷◌, ◌++◌, length, take, drop, Option, Some, None, Result, Ok, Err, refl, sym, ap, subst, ◌∙◌, arith, append_assoc, inl, inr}
+use Rattle.std.proofs.Common.{◌≡◌, ℕ, ◌+◌, ◌-◌, ◌<◌, ◌≤◌, Bool, true, false, cond, leb, List, [], ◌∷◌, ◌++◌, length, take, drop, Option, Some, None, Result, Ok, Err, refl, sym, ap, subst, ◌∙◌, arith, append_assoc, inl, inr, length-append}
+use Rattle.std.proofs.Math.Seq.{take-append-add, drop-append-add}
+use Rattle.std.proofs.Math.Dec.{leb-zero}
 use Rattle.std.specs.Prelude.{IsErrAnd, IsErr}
 use Rattle.outside.specs.declared.failed.Failed.{Failed}
 use Rattle.outside.specs.declared.run_fault.RunFault.{RunFault}
@@ -7,7 +9,7 @@ use Rattle.outside.specs.declared.run_fault.RunFault.TheVariants.{StreamEnds, Lo
 use Rattle.outside.specs.Cause.{Cause, Rose}
 use Rattle.outside.proofs.Cause.{Cause-none, Cause-then}
 use Rattle.outside.specs.Feed.{Taken, AllOf, Took, Ends, taken_by, gave}
-use Rattle.outside.specs.Reading.{Reader, go_on, bind, value, refusal, mapped, exactly, IsReadFault, Faults, Gives, Reads}
+use Rattle.outside.specs.Reading.{Reader, go_on, bind, value, refusal, mapped, exactly, IsReadFault, Faults, Gives, Reads, placed}
 
 -- ---- on lists
 
@@ -33,6 +35,24 @@ Took-told (Some bytes) (Some rest) got whole e took = (rest, refl, cc)
 Ends-told : (before : Option (List ℕ)) (room : ℕ) (whole : List ℕ) → before ≡ Some whole → Ends before room 0 → 0 < room → whole ≡ []
 Ends-told None room whole e ends h = absurd cc
 Ends-told (Some bytes) room whole e ends h = let nil = ends h refl in cc
+
+-- nothing is asked for
+pub exactly-nothing : (into bytes : List ℕ) → length into ≡ 0 → exactly (length into) bytes ≡ value into bytes
+exactly-nothing [] bytes e = rw leb-zero refl
+exactly-nothing (x ∷ into) bytes e = absurd (omega arith)
+
+exactly_by : (test : Bool) (got front back : List ℕ) → cond test (Ok (got ++ front, back)) (Err StreamEnds) ≡ go_on (cond test (Ok (front, back)) (Err StreamEnds)) (λ others. value (got ++ others))
+exactly_by true got front back = refl
+exactly_by false got front back = refl
+
+-- the first of these bytes, and then the others
+pub exactly-piece : (got : List ℕ) (asked : ℕ) (more : List ℕ) → length got ≤ asked → exactly asked (got ++ more) ≡ mapped (λ others. got ++ others) (exactly (asked - length got)) more
+exactly-piece got asked more h =
+    let test : leb asked (length (got ++ more)) ≡ leb (asked - length got) (length more) = grind (arith, length-append got more) in
+    let is : asked ≡ length got + (asked - length got) = omega arith in
+    let front : take asked (got ++ more) ≡ got ++ take (asked - length got) more = ap (λ (n : ℕ). take n (got ++ more)) is ∙ take-append-add got more (asked - length got) in
+    let back : drop asked (got ++ more) ≡ drop (asked - length got) more = ap (λ (n : ℕ). drop n (got ++ more)) is ∙ drop-append-add got more (asked - length got) in
+    rw (test, front, back) (exactly_by (leb (asked - length got) (length more)) got (take (asked - length got) more) (drop (asked - length got) more))
 
 module _ {F : Type 0} (rest : F → ℕ → Option (List ℕ)) (fed : F → List Taken → F → Type 0) (count : F → ℕ) (stream : ℕ)
   (nothing : (feed : F) → fed feed [] feed)
@@ -75,6 +95,13 @@ module _ {F : Type 0} (rest : F → ℕ → Option (List ℕ)) (fed : F → List
     Reads rest fed count stream read first last (Ok x) →
     Reads rest fed count stream (mapped f read) first last (Ok (f x))
   Reads-map first last read f x one = Reads-then first last last read (λ x. value (f x)) x (Ok (f x)) one (Reads-value last (f x))
+
+  -- a value that was left in what a call was given, seen by a function
+  pub Reads-placed : {T X Y : Type 0} (first last : F) (read : Reader X) (f : X → Y) (x : X) (result : Result T RunFault) →
+    Reads rest fed count stream read first last (placed x result) →
+    Reads rest fed count stream (mapped f read) first last (placed (f x) result)
+  Reads-placed first last read f x (Ok done) one = Reads-map first last read f x one
+  Reads-placed first last read f x (Err fault) one = Reads-fault first last read (λ x. value (f x)) fault one
 
   -- two readers that agree
   pub Reads-same : {Y : Type 0} (first last : F) (read other : Reader Y) (answer : Result Y RunFault) → ((bytes : List ℕ) → read bytes ≡ other bytes) →
