@@ -2,3 +2,4 @@ pub mod Cause
 pub mod Reading
 pub mod Runs
 pub mod Slices
+pub mod Varint

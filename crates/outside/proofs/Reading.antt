@@ -1,15 +1,14 @@
 -- Reading step by step.
-use Rattle.std.proofs.Common.{◌≡◌, ℕ, ◌+◌, ◌-◌, ◌<◌, ◌≤◌, Bool, true, false, cond, leb, List, [], ◌∷◌, ◌++◌, length, take, drop, Option, Some, None, Result, Ok, Err, refl, sym, ap, subst, ◌∙◌, arith, append_assoc, inl, inr, length-append}
+use Rattle.std.proofs.Common.{◌≡◌, ℕ, ◌+◌, ◌-◌, ◌<◌, ◌≤◌, Bool, true, false, cond, leb, List, [], ◌∷◌, ◌++◌, length, take, drop, Option, Some, None, Result, Ok, Err, refl, ap, ◌∙◌, arith, length-append}
 use Rattle.std.proofs.Math.Seq.{take-append-add, drop-append-add}
 use Rattle.std.proofs.Math.Dec.{leb-zero}
-use Rattle.std.specs.Prelude.{IsErrAnd, IsErr}
 use Rattle.outside.specs.declared.failed.Failed.{Failed}
 use Rattle.outside.specs.declared.run_fault.RunFault.{RunFault}
 use Rattle.outside.specs.declared.run_fault.RunFault.TheVariants.{StreamEnds, LongVarint, PatchOutOfRun, PatchTooWide, Read}
-use Rattle.outside.specs.Cause.{Cause, Rose}
+use Rattle.outside.specs.Cause.{Cause}
 use Rattle.outside.proofs.Cause.{Cause-none, Cause-then}
-use Rattle.outside.specs.Feed.{Taken, AllOf, Took, Ends, taken_by, gave}
-use Rattle.outside.specs.Reading.{Reader, go_on, bind, value, refusal, mapped, exactly, IsReadFault, Faults, Gives, Reads, placed}
+use Rattle.outside.specs.Feed.{Taken, AllOf, Took, Ends, gave}
+use Rattle.outside.specs.Reading.{Reader, go_on, bind, value, mapped, exactly, IsReadFault, Faults, Reads, placed}
 
 -- ---- on lists
 
@@ -24,8 +23,12 @@ Faults-go_on LongVarint read next h = rw h refl
 Faults-go_on PatchOutOfRun read next h = rw h refl
 Faults-go_on PatchTooWide read next h = rw h refl
 
-not_read_of_ok : {Y : Type 0} (y : Y) → IsErrAnd (Ok y) IsReadFault → ⊥
-not_read_of_ok y h = h
+Faults-is : {Y : Type 0} (fault : RunFault) (read : Result (Y × List ℕ) RunFault) → read ≡ Err fault → Faults fault read
+Faults-is (Read e) read h = tt
+Faults-is StreamEnds read h = h
+Faults-is LongVarint read h = h
+Faults-is PatchOutOfRun read h = h
+Faults-is PatchTooWide read h = h
 
 Took-told : (before after : Option (List ℕ)) (got whole : List ℕ) → before ≡ Some whole → Took before after got → (rest : List ℕ) × (after ≡ Some rest) × (whole ≡ got ++ rest)
 Took-told None after got whole e took = absurd cc
@@ -55,9 +58,8 @@ exactly-piece got asked more h =
     rw (test, front, back) (exactly_by (leb (asked - length got) (length more)) got (take (asked - length got) more) (drop (asked - length got) more))
 
 module _ {F : Type 0} (rest : F → ℕ → Option (List ℕ)) (fed : F → List Taken → F → Type 0) (count : F → ℕ) (stream : ℕ)
-  (nothing : (feed : F) → fed feed [] feed)
-  (joined : (first between last : F) (xs ys : List Taken) → fed first xs between → fed between ys last → fed first (xs ++ ys) last) where
-
+    (nothing : (feed : F) → fed feed [] feed)
+    (joined : (first between last : F) (xs ys : List Taken) → fed first xs between → fed between ys last → fed first (xs ++ ys) last) where
   pub Reads-value : {Y : Type 0} (feed : F) (y : Y) → Reads rest fed count stream (value y) feed feed (Ok y)
   Reads-value feed y = record {
     takes = [];
@@ -68,21 +70,21 @@ module _ {F : Type 0} (rest : F → ℕ → Option (List ℕ)) (fed : F → List
   }
 
   pub Reads-then : {X Y : Type 0} (first between last : F) (read : Reader X) (next : X → Reader Y) (x : X) (answer : Result Y RunFault) →
-    Reads rest fed count stream read first between (Ok x) → Reads rest fed count stream (next x) between last answer →
-    Reads rest fed count stream (bind read next) first last answer
+      Reads rest fed count stream read first between (Ok x) → Reads rest fed count stream (next x) between last answer →
+      Reads rest fed count stream (bind read next) first last answer
   Reads-then first between last read next x answer one two = record {
     takes = one.takes ++ two.takes;
     led = joined first between last one.takes two.takes one.led two.led;
     own = AllOf-append stream one.takes two.takes one.own two.own;
     cause = Cause-then (count first) (count between) (count last) one.cause two.cause;
     told = λ bytes e.
-      let g = one.told bytes e in
-      rw g.2 (two.told g.0 g.1);
+        let g = one.told bytes e in
+        rw g.2 (two.told g.0 g.1);
   }
 
   pub Reads-fault : {X Y : Type 0} (first last : F) (read : Reader X) (next : X → Reader Y) (fault : RunFault) →
-    Reads rest fed count stream read first last (Err fault) →
-    Reads rest fed count stream (bind read next) first last (Err fault)
+      Reads rest fed count stream read first last (Err fault) →
+      Reads rest fed count stream (bind read next) first last (Err fault)
   Reads-fault first last read next fault one = record {
     takes = one.takes;
     led = one.led;
@@ -92,20 +94,20 @@ module _ {F : Type 0} (rest : F → ℕ → Option (List ℕ)) (fed : F → List
   }
 
   pub Reads-map : {X Y : Type 0} (first last : F) (read : Reader X) (f : X → Y) (x : X) →
-    Reads rest fed count stream read first last (Ok x) →
-    Reads rest fed count stream (mapped f read) first last (Ok (f x))
+      Reads rest fed count stream read first last (Ok x) →
+      Reads rest fed count stream (mapped f read) first last (Ok (f x))
   Reads-map first last read f x one = Reads-then first last last read (λ x. value (f x)) x (Ok (f x)) one (Reads-value last (f x))
 
   -- a value that was left in what a call was given, seen by a function
   pub Reads-placed : {T X Y : Type 0} (first last : F) (read : Reader X) (f : X → Y) (x : X) (result : Result T RunFault) →
-    Reads rest fed count stream read first last (placed x result) →
-    Reads rest fed count stream (mapped f read) first last (placed (f x) result)
+      Reads rest fed count stream read first last (placed x result) →
+      Reads rest fed count stream (mapped f read) first last (placed (f x) result)
   Reads-placed first last read f x (Ok done) one = Reads-map first last read f x one
   Reads-placed first last read f x (Err fault) one = Reads-fault first last read (λ x. value (f x)) fault one
 
   -- two readers that agree
   pub Reads-same : {Y : Type 0} (first last : F) (read other : Reader Y) (answer : Result Y RunFault) → ((bytes : List ℕ) → read bytes ≡ other bytes) →
-    Reads rest fed count stream other first last answer → Reads rest fed count stream read first last answer
+      Reads rest fed count stream other first last answer → Reads rest fed count stream read first last answer
   Reads-same first last read other answer same one = record {
     takes = one.takes;
     led = one.led;
@@ -116,22 +118,22 @@ module _ {F : Type 0} (rest : F → ℕ → Option (List ℕ)) (fed : F → List
 
   -- a take gave these bytes, and then the rest was read
   pub Reads-piece : {Y : Type 0} (first between last : F) (read other : Reader Y) (got : List ℕ) (len : ℕ) (answer : Result Y RunFault) →
-    fed first (gave stream len ∷ []) between → count first ≤ count between → Took (rest first stream) (rest between stream) got →
-    ((more : List ℕ) → read (got ++ more) ≡ other more) →
-    Reads rest fed count stream other between last answer → Reads rest fed count stream read first last answer
+      fed first (gave stream len ∷ []) between → count first ≤ count between → Took (rest first stream) (rest between stream) got →
+      ((more : List ℕ) → read (got ++ more) ≡ other more) →
+      Reads rest fed count stream other between last answer → Reads rest fed count stream read first last answer
   Reads-piece first between last read other got len answer led later took same two = record {
     takes = gave stream len ∷ two.takes;
     led = joined first between last (gave stream len ∷ []) two.takes led two.led;
     own = (refl, two.own);
     cause = Cause-then {Fails' = ⊥} (count first) (count between) (count last) (record { later = later; failed = λ h. absurd h }) two.cause;
     told = λ bytes e.
-      let g = Took-told (rest first stream) (rest between stream) got bytes e took in
-      rw (g.2, same g.0) (two.told g.0 g.1);
+        let g = Took-told (rest first stream) (rest between stream) got bytes e took in
+        rw (g.2, same g.0) (two.told g.0 g.1);
   }
 
   -- a take gave no byte
   pub Reads-end : {Y : Type 0} (first last : F) (read : Reader Y) (room : ℕ) → fed first (gave stream 0 ∷ []) last → count first ≤ count last →
-    0 < room → Ends (rest first stream) room 0 → read [] ≡ Err StreamEnds → Reads rest fed count stream read first last (Err StreamEnds)
+      0 < room → Ends (rest first stream) room 0 → read [] ≡ Err StreamEnds → Reads rest fed count stream read first last (Err StreamEnds)
   Reads-end first last read room led later asked ends is = record {
     takes = gave stream 0 ∷ [];
     led = led;
@@ -142,11 +144,25 @@ module _ {F : Type 0} (rest : F → ℕ → Option (List ℕ)) (fed : F → List
 
   -- a take failed
   pub Reads-failed : {Y : Type 0} (first last : F) (read : Reader Y) (failed : Failed) (taken : Taken) → taken.stream ≡ stream → fed first (taken ∷ []) last → Cause (count first) (count last) (Unit {0}) →
-    Reads rest fed count stream read first last (Err (Read failed))
+      Reads rest fed count stream read first last (Err (Read failed))
   Reads-failed first last read failed taken own led cause = record {
     takes = taken ∷ [];
     led = led;
     own = (own, tt);
     cause = record { later = cause.later; failed = cause.failed };
     told = λ bytes e. tt;
+  }
+
+  -- a take gave these bytes, and whatever follows them, they break what is read
+  pub Reads-broken : {Y : Type 0} (first last : F) (read : Reader Y) (got : List ℕ) (len : ℕ) (fault : RunFault) →
+      fed first (gave stream len ∷ []) last → count first ≤ count last → Took (rest first stream) (rest last stream) got → (IsReadFault fault → ⊥) →
+      ((more : List ℕ) → read (got ++ more) ≡ Err fault) → Reads rest fed count stream read first last (Err fault)
+  Reads-broken first last read got len fault led later took not_read broken = record {
+    takes = gave stream len ∷ [];
+    led = led;
+    own = (refl, tt);
+    cause = record { later = later; failed = λ h. absurd (not_read h) };
+    told = λ bytes e.
+        let g = Took-told (rest first stream) (rest last stream) got bytes e took in
+        Faults-is fault (read bytes) (rw g.2 (broken g.0));
   }

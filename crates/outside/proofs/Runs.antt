@@ -1,7 +1,6 @@
 -- What follows for every format of runs that has a reader.
-use Rattle.std.proofs.Common.{◌≡◌, ℕ, zero, suc, ◌+◌, ◌-◌, ◌<◌, ◌≤◌, ◌⊎◌, List, [], ◌∷◌, ◌++◌, length, Result, Ok, Err, refl, sym, ap, subst, ◌∙◌, arith, append_assoc, inl, inr, length-append}
+use Rattle.std.proofs.Common.{◌≡◌, ℕ, zero, suc, ◌+◌, ◌<◌, ◌≤◌, ◌⊎◌, List, [], ◌∷◌, ◌++◌, length, Result, Ok, Err, refl, sym, ap, subst, ◌∙◌, arith, append_assoc, inl, inr, length-append}
 use Rattle.std.proofs.lemmas.List.{append-nil}
-use Rattle.std.proofs.lemmas.Bool.{cases_lt}
 use Rattle.outside.specs.declared.run_fault.RunFault.{RunFault}
 use Rattle.outside.specs.Reading.{Reader}
 use Rattle.outside.specs.Runs.{Joined, none, one, Fewest, no_run, runs, Between, Spells, Breaks, IsReaderOf, BeginsNoOther}
@@ -45,11 +44,11 @@ module _ {V : Type 0} (Run : List ℕ → List V → Type 0) where
     used = at.used ++ run;
     parts = at.parts ∙ rw (parts, append_assoc) refl;
     fewest =
-      let joined : Joined Run at.used given = rw append-nil at (Fewest-joined at.fewest) in
-      let all : length (given ++ (more ++ held)) ≡ length given + (length more + length held) = omega (arith, length-append given (more ++ held), length-append more held) in
-      let fewer : length given < length (given ++ more) = omega (arith, length-append given more) in
-      let enough : length (given ++ more) ≤ length (given ++ (more ++ held)) = omega (arith, length-append given more) in
-      rw append_assoc (runs joined fewer is enough);
+        let joined : Joined Run at.used given = rw append-nil at (Fewest-joined at.fewest) in
+        let all : length (given ++ (more ++ held)) ≡ length given + (length more + length held) = omega (arith, length-append given (more ++ held), length-append more held) in
+        let fewer : length given < length (given ++ more) = omega (arith, length-append given more) in
+        let enough : length (given ++ more) ≤ length (given ++ (more ++ held)) = omega (arith, length-append given more) in
+        rw append_assoc (runs joined fewer is enough);
   }
 
   -- nothing is held, and what follows is no run
@@ -118,11 +117,11 @@ module _ {V : Type 0} (Run : List ℕ → List V → Type 0) where
     spells_on (suc left) stream rest given [] count at is =
         by_outcome rest (read rest) refl
         (λ values after e.
-          let found = reads.only rest after values e in
-          let front = first_of values (reads.some found.0 values found.1) in
-          let run : Run found.0 ((front.0 ∷ []) ++ front.1) = subst (λ (v : List V). Run found.0 v) front.2 found.1 in
-          let next = Between-run stream rest found.0 after given (front.0 ∷ []) front.1 at run found.2 (omega arith) in
-          spells_on left stream after (given ++ front.0 ∷ []) front.1 count next (omega (arith, length-append given (front.0 ∷ []))))
+        let found = reads.only rest after values e in
+        let front = first_of values (reads.some found.0 values found.1) in
+        let run : Run found.0 ((front.0 ∷ []) ++ front.1) = subst (λ (v : List V). Run found.0 v) front.2 found.1 in
+        let next = Between-run stream rest found.0 after given (front.0 ∷ []) front.1 at run found.2 (omega arith) in
+        spells_on left stream after (given ++ front.0 ∷ []) front.1 count next (omega (arith, length-append given (front.0 ∷ []))))
         (λ fault e. inr (fault, Between-breaks read stream rest given count fault at e (omega arith)))
 
     -- a stream spells so many values, or it breaks before them

@@ -1,8 +1,7 @@
-use Rattle.std.proofs.Common.{length, ◌≡◌, ℕ, ◌+◌, ◌-◌, ◌<◌, ◌≤◌, List, ◌++◌, arith, sym, take}
+use Rattle.std.proofs.Common.{length, ◌≡◌, ◌-◌, ◌≤◌, ◌++◌, arith, sym}
 use Rattle.std.proofs.lemmas.Bool.{eqb-true}
-use Rattle.std.proofs.lemmas.List.{length-take}
 use Rattle.outside.specs.Feed.{Took}
-use Rattle.outside.specs.Reading.{Reads, exactly, placed, mapped, value}
+use Rattle.outside.specs.Reading.{exactly, mapped, value}
 use Rattle.outside.proofs.Reading.{Reads-same, Reads-value, Reads-piece, Reads-placed, exactly-nothing, exactly-piece}
 use Rattle.outside.proofs.exact.+take_exactly.Goals as goal
 
