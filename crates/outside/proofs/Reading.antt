@@ -1,5 +1,5 @@
 -- Reading step by step.
-use Rattle.std.proofs.Common.{◌≡◌, ℕ, ◌+◌, ◌-◌, ◌<◌, ◌≤◌, Bool, true, false, cond, leb, List, [], ◌∷◌, ◌++◌, length, take, drop, Option, Some, None, Result, Ok, Err, refl, ap, ◌∙◌, arith, length-append}
+use Rattle.std.proofs.Common.{sym, ◌≡◌, ℕ, ◌+◌, ◌-◌, ◌<◌, ◌≤◌, Bool, true, false, cond, leb, List, [], ◌∷◌, ◌++◌, length, take, drop, get_or, suc, Option, Some, None, Result, Ok, Err, refl, ap, ◌∙◌, arith, length-append}
 use Rattle.std.proofs.Math.Seq.{take-append-add, drop-append-add}
 use Rattle.std.proofs.Math.Dec.{leb-zero}
 use Rattle.outside.specs.declared.failed.Failed.{Failed}
@@ -8,7 +8,7 @@ use Rattle.outside.specs.declared.run_fault.RunFault.TheVariants.{StreamEnds, Lo
 use Rattle.outside.specs.Cause.{Cause}
 use Rattle.outside.proofs.Cause.{Cause-none, Cause-then}
 use Rattle.outside.specs.Feed.{Taken, AllOf, Took, Ends, gave}
-use Rattle.outside.specs.Reading.{Reader, go_on, bind, value, mapped, exactly, IsReadFault, Faults, Reads, placed}
+use Rattle.outside.specs.Reading.{Reader, go_on, bind, value, mapped, exactly, IsReadFault, Faults, Reads, placed, byte}
 
 -- ---- on lists
 
@@ -166,3 +166,13 @@ module _ {F : Type 0} (rest : F → ℕ → Option (List ℕ)) (fed : F → List
         let g = Took-told (rest first stream) (rest last stream) got bytes e took in
         Faults-is fault (read bytes) (rw g.2 (broken g.0));
   }
+
+-- ---- one
+
+first_byte : (first : ℕ) (rest : List ℕ) (test : Bool) → test ≡ true → go_on (cond test (Ok (first ∷ [], rest)) (Err StreamEnds)) (λ bytes. value (get_or bytes 0 0)) ≡ Ok (first, rest)
+first_byte first rest true e = refl
+first_byte first rest false e = absurd cc
+
+pub byte-exactly : (bytes : List ℕ) → byte bytes ≡ mapped (λ bytes. get_or bytes 0 0) (exactly 1) bytes
+byte-exactly [] = refl
+byte-exactly (first ∷ rest) = let t : leb 1 (suc (length rest)) ≡ true = grind (arith) in sym (first_byte first rest (leb 1 (suc (length rest))) t)

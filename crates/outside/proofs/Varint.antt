@@ -1,5 +1,5 @@
 -- Varints byte by byte, and in pieces.
-use Rattle.std.proofs.Common.{◌≡◌, ℕ, zero, suc, ◌+◌, ◌-◌, ◌*◌, ◌%◌, ◌^◌, ◌<◌, ◌≤◌, true, false, ltb, List, [], ◌∷◌, ◌++◌, length, Result, Ok, Err, refl, sym, ap, ◌∙◌, arith, append_assoc, length-append, Some, None}
+use Rattle.std.proofs.Common.{◌≡◌, ℕ, zero, suc, ◌+◌, ◌-◌, ◌*◌, ◌%◌, ◌^◌, ◌<◌, ◌≤◌, true, false, ltb, List, [], ◌∷◌, ◌++◌, length, get_or, Result, Ok, Err, refl, sym, ap, ◌∙◌, arith, append_assoc, length-append, Some, None}
 use Rattle.std.proofs.Math.Nat.{add-mod-mod, mod-add-mod, mul_comm}
 use Rattle.std.proofs.lemmas.Nat.{pow-add}
 use Rattle.std.proofs.lemmas.Bool.{le-ltb, lt-ltb}
@@ -7,7 +7,7 @@ use Rattle.outside.specs.declared.run_fault.RunFault.{RunFault}
 use Rattle.outside.specs.declared.run_fault.RunFault.TheVariants.{StreamEnds, LongVarint}
 use Rattle.outside.specs.Reading.{go_on, value, mapped}
 use Rattle.outside.specs.Pieces.{Pushed, Absorbed}
-use Rattle.outside.specs.Varint.{groups_within, varints, open_varint, open_varints}
+use Rattle.outside.specs.Varint.{varint, groups_within, varints, open_varint, open_varints}
 
 -- ---- one more byte
 
@@ -135,3 +135,13 @@ open_varints-ends groups count asked short h =
     let e : asked ≡ suc (asked - 1) = omega arith in
     let room : 10 - count ≡ suc (9 - count) = omega arith in
     rw (e, open_varints-step groups count (asked - 1) [], room, within-ends (9 - count)) refl
+
+-- ---- one number
+
+one_of : (read : Result (ℕ × List ℕ) RunFault) → read ≡ go_on (go_on read (λ number. mapped (λ others. number ∷ others) (value []))) (λ numbers. value (get_or numbers 0 0))
+one_of (Ok (number, rest)) = refl
+one_of (Err fault) = refl
+
+pub varint-varints : (bytes : List ℕ) → varint bytes ≡ mapped (λ numbers. get_or numbers 0 0) (varints 1) bytes
+unfolding varints
+varint-varints bytes = one_of (varint bytes)

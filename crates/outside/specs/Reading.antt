@@ -1,5 +1,5 @@
 -- Reading from the front of a stream: as a function on lists of bytes, and as what a call on a feed does.
-use Rattle.std.specs.Prelude.{◌≡◌, ℕ, List, length, take, drop, Option, Some, Result, Ok, Err, nat_le, if◌then◌else◌, IsErrAnd}
+use Rattle.std.specs.Prelude.{[], ◌∷◌, ◌≡◌, ℕ, List, length, take, drop, Option, Some, Result, Ok, Err, nat_le, if◌then◌else◌, IsErrAnd}
 use Rattle.outside.specs.declared.run_fault.RunFault.{RunFault}
 use Rattle.outside.specs.declared.run_fault.RunFault.TheVariants.{StreamEnds, Read}
 use Rattle.outside.specs.Cause.{Cause}
@@ -29,6 +29,11 @@ refusal fault bytes = Err fault
 -- what is read, seen by a function
 abbrev pub mapped : {X Y : Type 0} → (X → Y) → Reader X → Reader Y
 mapped f read = bind read (λ x. value (f x))
+
+-- one byte
+abbrev pub byte : Reader ℕ
+byte [] = Err StreamEnds
+byte (first ∷ rest) = Ok (first, rest)
 
 -- just so many bytes
 abbrev pub exactly : ℕ → Reader (List ℕ)

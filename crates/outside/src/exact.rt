@@ -1,6 +1,6 @@
 //! A number of bytes that is known, taken whole.
 ghost use Rattle.std.specs.Prelude.{length};
-ghost use Rattle.outside.specs.Reading.{Reads, exactly, placed};
+ghost use Rattle.outside.specs.Reading.{Reads, byte, exactly, placed};
 
 use crate::{Feed, RunFault};
 
@@ -20,4 +20,13 @@ pub fn take_exactly<F: Feed>(feed: &mut F, stream: u32, into: &mut [u8]) -> Resu
     }
     let (_, rest) = into.split_at_mut(len);
     take_exactly(feed, stream, rest)
+}
+
+/// Takes one byte, as `take_exactly` does.
+pub fn take_byte<F: Feed>(feed: &mut F, stream: u32) -> Result<u8, RunFault>
+    ensures { Reads F.rest F.fed F.fault_count stream byte feed.old feed.new result }
+{
+    let mut into = [0; 1];
+    take_exactly(feed, stream, &mut into)?;
+    Ok(into[0])
 }

@@ -9,9 +9,9 @@ mod run_fault;
 mod slice_feed;
 mod varints;
 
-pub use exact::take_exactly;
+pub use exact::{take_byte, take_exactly};
 pub use failed::{Failed, NoMemory};
 pub use feed::Feed;
 pub use run_fault::RunFault;
 pub use slice_feed::SliceFeed;
-pub use varints::take_varints;
+pub use varints::{take_varint, take_varints};

@@ -1,7 +1,7 @@
 //! Varints, taken in pieces.
 ghost use Rattle.std.specs.Prelude.{◌≡◌, ◌≤◌, length};
 ghost use Rattle.outside.specs.Reading.{Reads, placed};
-ghost use Rattle.outside.specs.Varint.{varints, open_varints};
+ghost use Rattle.outside.specs.Varint.{varint, varints, open_varints};
 ghost use Rattle.outside.specs.Pieces.{AbsorbsTo};
 
 use crate::begun::Begun;
@@ -34,6 +34,15 @@ pub fn take_varints<F: Feed>(feed: &mut F, stream: u32, out: &mut [u64]) -> Resu
     ensures { Reads F.rest F.fed F.fault_count stream (varints (length out.old)) feed.old feed.new (placed out.new result) }
 {
     take_open(feed, stream, Begun::new(), out)
+}
+
+/// Takes one varint, as `take_varints` does.
+pub fn take_varint<F: Feed>(feed: &mut F, stream: u32) -> Result<u64, RunFault>
+    ensures { Reads F.rest F.fed F.fault_count stream varint feed.old feed.new result }
+{
+    let mut number = [0; 1];
+    take_varints(feed, stream, &mut number)?;
+    Ok(number[0])
 }
 
 fn take_open<F: Feed>(
