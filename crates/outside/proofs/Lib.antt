@@ -1,2 +1,6 @@
 pub mod Cause
 pub mod Following
+pub mod Reading
+pub mod Runs
+pub mod Slices
+pub mod Varint
