@@ -35,14 +35,14 @@ cut-joined : (xs ys : List ℕ) → IsName xs → cut_at_space (xs ++ 32 ∷ ys)
 cut-joined xs ys n =
     let long : length (xs ++ 32 ∷ ys) ≡ length xs + length (32 ∷ ys) = length-append xs (32 ∷ ys) in
     let at : position_or_len (λ b. eqb b 32) (xs ++ 32 ∷ ys) ≡ length xs =
-        position_or_len_is (λ b. eqb b 32) (xs ++ 32 ∷ ys) (length xs) 0 (omega arith)
-          (λ k h. rw (get_or_append_left xs (32 ∷ ys) 0 k h) (byte_no_space _ (All-get_or (λ b. is_name_byte b ≡ true) xs k 0 h n.bytes)))
-          (λ _. rw (get_or_at xs 32 ys 0 (length xs) refl) refl) in
+    position_or_len_is (λ b. eqb b 32) (xs ++ 32 ∷ ys) (length xs) 0 (omega arith)
+    (λ k h. rw (get_or_append_left xs (32 ∷ ys) 0 k h) (byte_no_space _ (All-get_or (λ b. is_name_byte b ≡ true) xs k 0 h n.bytes)))
+    (λ _. rw (get_or_at xs 32 ys 0 (length xs) refl) refl) in
     let found : position (λ b. eqb b 32) (xs ++ 32 ∷ ys) ≡ Some (length xs) =
-        rw at (grind (arith, nat_tests)) in
+    rw at (grind (arith, nat_tests)) in
     let front : take (length xs) (xs ++ 32 ∷ ys) ≡ xs = take_at xs (32 ∷ ys) (length xs) refl in
     let back : drop (length xs + 1) (xs ++ 32 ∷ ys) ≡ ys =
-        rw (← append_assoc xs (32 ∷ []) ys) (drop_at (xs ++ 32 ∷ []) ys (length xs + 1) (length-append xs (32 ∷ []))) in
+    rw (← append_assoc xs (32 ∷ []) ys) (drop_at (xs ++ 32 ∷ []) ys (length xs + 1) (length-append xs (32 ∷ []))) in
     ap (option_map (λ (i : ℕ). (take i (xs ++ 32 ∷ ys), drop (i + 1) (xs ++ 32 ∷ ys)))) found ∙ cc
 
 cut-parts-from : (bs : List ℕ) (at : Option ℕ) (x : List ℕ × List ℕ) → position (λ b. eqb b 32) bs ≡ at
@@ -53,7 +53,7 @@ cut-parts-from bs (Some i) x e h =
     let is : get_or bs i 0 ≡ 32 = eqb-true (get_or bs i 0) 32 p.1 in
     let same : (take i bs, drop (i + 1) bs) ≡ x = same_Some (take i bs, drop (i + 1) bs) x h in
     let parts : bs ≡ take i bs ++ 32 ∷ drop (i + 1) bs =
-        sym (take-append-drop i bs) ∙ ap (λ ys. take i bs ++ ys) (drop_more bs i 0 p.0 ∙ ap (λ (b : ℕ). b ∷ drop (i + 1) bs) is) in
+    sym (take-append-drop i bs) ∙ ap (λ ys. take i bs ++ ys) (drop_more bs i 0 p.0 ∙ ap (λ (b : ℕ). b ∷ drop (i + 1) bs) is) in
     subst (λ (y : List ℕ × List ℕ). bs ≡ y.0 ++ 32 ∷ y.1) same parts
 
 cut-parts : (bs : List ℕ) (x : List ℕ × List ℕ) → cut_at_space bs ≡ Some x → bs ≡ x.0 ++ 32 ∷ x.1
@@ -74,24 +74,24 @@ words-parts : (line : List ℕ) (x : List ℕ × List ℕ × List ℕ) → words
 words-parts line x h =
     option_and_then_some with_name (cut_at_space line) x h
     (λ (n : List ℕ × List ℕ) en hn.
-      option_and_then_some (with_column n.0) (after_front (codes "sum ") n.1) x hn
-      (λ (r : List ℕ) er hr.
-        option_and_then_some (with_file n.0) (cut_at_space r) x hr
-        (λ (c : List ℕ × List ℕ) ec hc.
-          option_and_then_some (λ (file : List ℕ). Some (n.0, c.0, file)) (after_front (codes "from ") c.1) x hc
-          (λ (f : List ℕ) ef hf.
-            let same : (n.0, c.0, f) ≡ x = same_Some (n.0, c.0, f) x hf in
-            let whole : line ≡ sum_line n.0 c.0 f =
-                cut-parts line n en ∙ ap (λ (ys : List ℕ). n.0 ++ 32 ∷ ys)
-                  (front-parts (codes "sum ") n.1 r er ∙ ap (λ (ys : List ℕ). codes "sum " ++ ys)
-                    (cut-parts r c ec ∙ ap (λ (ys : List ℕ). c.0 ++ 32 ∷ ys) (front-parts (codes "from ") c.1 f ef))) in
-            subst (λ (y : List ℕ × List ℕ × List ℕ). line ≡ sum_line y.0 y.1 y.2) same whole))))
+    option_and_then_some (with_column n.0) (after_front (codes "sum ") n.1) x hn
+    (λ (r : List ℕ) er hr.
+    option_and_then_some (with_file n.0) (cut_at_space r) x hr
+    (λ (c : List ℕ × List ℕ) ec hc.
+    option_and_then_some (λ (file : List ℕ). Some (n.0, c.0, file)) (after_front (codes "from ") c.1) x hc
+    (λ (f : List ℕ) ef hf.
+    let same : (n.0, c.0, f) ≡ x = same_Some (n.0, c.0, f) x hf in
+    let whole : line ≡ sum_line n.0 c.0 f =
+    cut-parts line n en ∙ ap (λ (ys : List ℕ). n.0 ++ 32 ∷ ys)
+    (front-parts (codes "sum ") n.1 r er ∙ ap (λ (ys : List ℕ). codes "sum " ++ ys)
+    (cut-parts r c ec ∙ ap (λ (ys : List ℕ). c.0 ++ 32 ∷ ys) (front-parts (codes "from ") c.1 f ef))) in
+    subst (λ (y : List ℕ × List ℕ × List ℕ). line ≡ sum_line y.0 y.1 y.2) same whole))))
 
 -- the line's last byte is the file's
 sum_line-ends : (n c f : List ℕ) → sum_line n c f ≡ (n ++ 32 ∷ (codes "sum " ++ (c ++ codes " from "))) ++ f
 sum_line-ends n c f =
     sym (append_assoc n (32 ∷ (codes "sum " ++ (c ++ codes " from "))) f
-      ∙ ap (λ (ys : List ℕ). n ++ 32 ∷ (codes "sum " ++ ys)) (append_assoc c (codes " from ") f))
+    ∙ ap (λ (ys : List ℕ). n ++ 32 ∷ (codes "sum " ++ ys)) (append_assoc c (codes " from ") f))
 
 last-append : (xs ys : List ℕ) → 1 ≤ length ys → get_or (xs ++ ys) (length (xs ++ ys) - 1) 0 ≡ get_or ys (length ys - 1) 0
 last-append xs ys h =
@@ -120,13 +120,13 @@ line-kept n c f hf =
     let front = n ++ 32 ∷ (codes "sum " ++ (c ++ codes " from ")) in
     let P : List ℕ → Type 0 = λ l. get_or l (length l - 1) 0 ≡ get_or f (length f - 1) 0 in
     let last : get_or (sum_line n c f) (length (sum_line n c f) - 1) 0 ≡ get_or f (length f - 1) 0 =
-        subst P (sym (sum_line-ends n c f)) (last-append front f hf.some) in
+    subst P (sym (sum_line-ends n c f)) (last-append front f hf.some) in
     without_end-kept (sum_line n c f) (ap (λ (b : ℕ). eqb b 10) last ∙ last_of_file f hf)
 
 pub plan_is_read : (bytes n c f : List ℕ) → IsSumPlan bytes n c f → words_of (without_end bytes) ≡ Some (n, c, f)
 plan_is_read bytes n c f p =
     let line : without_end bytes ≡ sum_line n c f =
-        ⊎_elim (λ e. ap without_end e ∙ line-kept n c f p.file_is.name_is) (λ e. ap without_end e ∙ without_end-cut (sum_line n c f)) p.joined in
+    ⊎_elim (λ e. ap without_end e ∙ line-kept n c f p.file_is.name_is) (λ e. ap without_end e ∙ without_end-cut (sum_line n c f)) p.joined in
     ap words_of line ∙ words-joined n c f p.name_is p.column_is
 
 last-split : (bs : List ℕ) → 1 ≤ length bs → bs ≡ take (length bs - 1) bs ++ get_or bs (length bs - 1) 0 ∷ []
@@ -134,9 +134,9 @@ last-split bs h =
     let within : length bs - 1 < length bs = omega arith in
     let past : length bs ≤ length bs - 1 + 1 = omega arith in
     sym (take-append-drop (length bs - 1) bs)
-      ∙ ap (λ (ys : List ℕ). take (length bs - 1) bs ++ ys)
-        (drop_more bs (length bs - 1) 0 within
-          ∙ ap (λ (ys : List ℕ). get_or bs (length bs - 1) 0 ∷ ys) (drop_all (length bs - 1 + 1) bs past))
+    ∙ ap (λ (ys : List ℕ). take (length bs - 1) bs ++ ys)
+    (drop_more bs (length bs - 1) 0 within
+    ∙ ap (λ (ys : List ℕ). get_or bs (length bs - 1) 0 ∷ ys) (drop_all (length bs - 1 + 1) bs past))
 
 ended-from : (bs : List ℕ) (b : Bool) → eqb (get_or bs (length bs - 1) 0) 10 ≡ b → (bs ≡ without_end bs) ⊎ (bs ≡ without_end bs ++ 10 ∷ [])
 ended-from bs false e = inl (sym (without_end-kept bs e))
@@ -153,7 +153,7 @@ pub read_is_plan : (bytes : List ℕ) (x : List ℕ × List ℕ × List ℕ) →
 read_is_plan bytes x h =
     let line : without_end bytes ≡ sum_line x.0 x.1 x.2 = words-parts (without_end bytes) x h in
     ⊎_elim (λ e. inl (e ∙ line)) (λ e. inr (e ∙ ap (λ (ys : List ℕ). ys ++ 10 ∷ []) line))
-      (ended-from bytes (eqb (get_or bytes (length bytes - 1) 0) 10) refl)
+    (ended-from bytes (eqb (get_or bytes (length bytes - 1) 0) 10) refl)
 
 -- the words that were found are a plan where they meet their rules
 pub plan_made : (bytes n c f name column file : List ℕ) → words_of (without_end bytes) ≡ Some (n, c, f)
@@ -167,9 +167,9 @@ pub no_plan : (bytes n c f : List ℕ) → words_of (without_end bytes) ≡ Some
     → (IsName n × IsName c × IsFileName f → ⊥) → (name column file : List ℕ) → IsSumPlan bytes name column file → ⊥
 no_plan bytes n c f h bad name column file p =
     let same : (name, column, file) ≡ (n, c, f) =
-        same_Some (name, column, file) (n, c, f) (sym (plan_is_read bytes name column file p) ∙ h) in
+    same_Some (name, column, file) (n, c, f) (sym (plan_is_read bytes name column file p) ∙ h) in
     bad (subst (λ (x : List ℕ × List ℕ × List ℕ). IsName x.0 × IsName x.1 × IsFileName x.2) same
-        (p.name_is, p.column_is, p.file_is))
+    (p.name_is, p.column_is, p.file_is))
 
 pub no_words : (bytes : List ℕ) → words_of (without_end bytes) ≡ None
     → (name column file : List ℕ) → IsSumPlan bytes name column file → ⊥
@@ -179,5 +179,5 @@ no_words bytes h name column file p =
 pub one_plan : (bytes : List ℕ) → IsOnePlan bytes
 one_plan bytes n c f name column file p q =
     let same : (n, c, f) ≡ (name, column, file) =
-        same_Some (n, c, f) (name, column, file) (sym (plan_is_read bytes n c f p) ∙ plan_is_read bytes name column file q) in
+    same_Some (n, c, f) (name, column, file) (sym (plan_is_read bytes n c f p) ∙ plan_is_read bytes name column file q) in
     (ap (λ (x : List ℕ × List ℕ × List ℕ). x.0) same, ap (λ (x : List ℕ × List ℕ × List ℕ). x.1) same, ap (λ (x : List ℕ × List ℕ × List ℕ). x.2) same)

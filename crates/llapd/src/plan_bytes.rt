@@ -42,7 +42,11 @@ pub fn read_all<P: Source>(alloc: Global, plan: &mut P, most: usize) -> Result<B
 /// Makes one read, whose bytes go to the end of `bytes`, and answers how many: 0 only at the source's end.
 ///
 /// After an error `bytes` is as before.
-fn read_some<P: Source>(plan: &mut P, chunk: &mut [u8], bytes: &mut Vec<u8>) -> Result<usize, PlanError>
+fn read_some<P: Source>(
+    plan: &mut P,
+    chunk: &mut [u8],
+    bytes: &mut Vec<u8>,
+) -> Result<usize, PlanError>
     requires { 0 < length chunk.old }
     ensures fits { IfOk result (λ n. n ≤ length chunk.new) }
     ensures len { IfOk result (λ n. vec_len bytes.new ≡ vec_len bytes.old + n) }

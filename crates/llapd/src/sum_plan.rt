@@ -39,8 +39,7 @@ pub fn read_sum_plan(alloc: Global, bytes: &[u8]) -> Result<Option<SumPlan>, NoM
 /// The law that the bytes of a plan determine its three words. It does nothing.
 pub fn plan_is_one(_bytes: &[u8])
     ensures { IsOnePlan _bytes.now }
-{
-}
+{}
 
 /// The bytes without one byte 0A at their end, where they have it.
 fn line_of(bytes: &[u8]) -> &[u8]

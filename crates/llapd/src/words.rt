@@ -20,4 +20,5 @@ pub fn usage_line() -> &'static [u8]
     USAGE.as_bytes()
 }
 
-const USAGE: &str = "usage: llapd [--min-block N] [--arenas N] [--sets N] [--executors N] [--io N] [--room N] [--half-life N] [--gen N] [--rows N]\n";
+const USAGE: &str =
+    "usage: llapd [--min-block N] [--arenas N] [--sets N] [--executors N] [--io N] [--room N] [--half-life N] [--gen N] [--rows N]\n";

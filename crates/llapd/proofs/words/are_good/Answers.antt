@@ -11,10 +11,11 @@ two_words [] d r low high e1 e2 = absurd (omega arith)
 two_words (x ∷ []) d r low high e1 e2 = absurd (omega arith)
 two_words (x ∷ y ∷ z ∷ more) d r low high e1 e2 = absurd (omega arith)
 two_words (x ∷ y ∷ []) d r low high e1 e2 =
-    let option : x.now ≡ codes "--executors" = (bytes_eq-Decides x.now (codes "--executors")).0 e1 in
-    (λ t. let value : y.now ≡ codes "0" = (bytes_eq-Decides y.now (codes "0")).0 (sym e2 ∙ t) in inr (cc (option, value)),
+    let option : x.now ≡ codes "--executors" = (bytes_eq-Decides x.now (codes "--executors")).0 e1 in (
+      λ t. let value : y.now ≡ codes "0" = (bytes_eq-Decides y.now (codes "0")).0 (sym e2 ∙ t) in inr (cc (option, value)),
       λ good. ⊎_elim (λ none. absurd (cc none))
-        (λ two. let value : y.now ≡ codes "0" = cc two in e2 ∙ (bytes_eq-Decides y.now (codes "0")).1 value) good)
+          (λ two. let value : y.now ≡ codes "0" = cc two in e2 ∙ (bytes_eq-Decides y.now (codes "0")).1 value) good,
+    )
 
 pub returns-then-eq : goal.returns-then-eq
 returns-then-eq c =
