@@ -1,0 +1,2 @@
+pub mod PlanBytes
+pub mod SumPlan

@@ -1,0 +1,5 @@
+pub mod Line
+pub mod PlanBytes
+pub mod SumPlan
+pub mod SumWords
+pub mod Words

@@ -1,0 +1,9 @@
+//! The data path of a Hive LLAP daemon: reads plans, scans ORC files and prints each fragment's result.
+#![tactic(auto)]
+
+mod line;
+mod plan_bytes;
+mod sum_plan;
+mod words;
+
+fn main() {}
