@@ -2,7 +2,7 @@
 use Rattle.std.proofs.Common.{◌≡◌, ◌≤◌, ◌<◌, ℕ, ◌+◌, List, [], ◌++◌, length, take, drop, Option, Some, sym, ◌∙◌, ap, refl, arith}
 use Rattle.std.proofs.Math.Seq.{take-add}
 use Rattle.std.proofs.lemmas.List.{drop-drop, take_all, drop_all, length-drop, append-nil}
-use Rattle.llapd.specs.PlanBytes.{GaveFront, GaveNext, Lost}
+use Rattle.llapd.specs.PlanBytes.{GaveFront, GaveNext}
 
 -- the first k bytes were read
 abbrev pub HasRead : Option (List ℕ) → Option (List ℕ) → ℕ → List ℕ → Type 0
@@ -31,9 +31,3 @@ read_to_end first between last k n most old new zero few front next told e =
       r.1 ∙ ap (λ (xs : List ℕ). old ++ xs) none ∙ append-nil old ∙ f.0 ∙ take_all k told short ∙ sym (take_all most told within),
       r.2 ∙ ap Some (rest ∙ sym (drop_all most told within)),
     )
-
-pub lost_later : (first between last : Option (List ℕ)) (k room most : ℕ) (old : List ℕ) → k + room ≤ most
-    → HasRead first between k old → Lost between last room → Lost first last most
-lost_later first between last k room most old fits front lost told e =
-    let m = lost (drop k told) (front told e).1 in
-    (k + m.0, omega (arith, m.1), m.2 ∙ ap Some (drop-drop m.0 k told))

@@ -20,8 +20,3 @@ abbrev pub GaveNext : Option (List ℕ) → Option (List ℕ) → ℕ → List �
 GaveNext before after n old new =
     (told : List ℕ) → before ≡ Some told
     → (n ≤ length told) × (new ≡ old ++ take n told) × (after ≡ Some (drop n told)) × (n ≡ 0 → told ≡ [])
-
--- Where what is left was told, it is told still, without at most so many bytes of its front.
-abbrev pub Lost : Option (List ℕ) → Option (List ℕ) → ℕ → Type 0
-Lost before after most =
-    (told : List ℕ) → before ≡ Some told → (n : ℕ) × (n ≤ most) × (after ≡ Some (drop n told))

@@ -4,6 +4,7 @@
 mod line;
 mod plan_bytes;
 mod sum_plan;
+mod total;
 mod words;
 
 fn main() {}

@@ -1,7 +1,7 @@
 //! The plan's bytes, read whole before anything is made of them.
-ghost use Rattle.std.specs.Prelude.{◌≡◌, ◌<◌, ◌≤◌, ◌+◌, ℕ, length, vec_len, IfOk, OnErr};
+ghost use Rattle.std.specs.Prelude.{◌≡◌, ◌<◌, ◌≤◌, ◌+◌, ℕ, length, vec_len, IfOk};
 ghost use Rattle.outside.specs.Cause.{Cause};
-ghost use Rattle.llapd.specs.PlanBytes.{IsFault, GaveFront, GaveNext, Lost};
+ghost use Rattle.llapd.specs.PlanBytes.{IsFault, GaveFront, GaveNext};
 
 use outside::{Bytes, Failed, Source};
 use std::alloc::Global;
@@ -25,7 +25,6 @@ const CHUNK: usize = 4096;
 pub fn read_all<P: Source>(alloc: Global, plan: &mut P, most: usize) -> Result<Bytes, PlanError>
     ensures few { IfOk result (λ bytes. length bytes ≤ most) }
     ensures read { IfOk result (λ bytes. GaveFront (P.left plan.old) (P.left plan.new) most bytes) }
-    ensures lost { OnErr result (Lost (P.left plan.old) (P.left plan.new) most) }
     ensures cause { Cause (P.fault_count plan.old) (P.fault_count plan.new) (IsFault result) }
 {
     let mut bytes = Vec::new(alloc);
@@ -51,7 +50,6 @@ fn read_some<P: Source>(
     ensures fits { IfOk result (λ n. n ≤ length chunk.new) }
     ensures len { IfOk result (λ n. vec_len bytes.new ≡ vec_len bytes.old + n) }
     ensures read { IfOk result (λ n. GaveNext (P.left plan.old) (P.left plan.new) n bytes.old.items bytes.new.items) }
-    ensures lost { OnErr result (Lost (P.left plan.old) (P.left plan.new) (length chunk.new)) }
     ensures cause { Cause (P.fault_count plan.old) (P.fault_count plan.new) (IsFault result) }
 {
     let got = match plan.read(chunk) {

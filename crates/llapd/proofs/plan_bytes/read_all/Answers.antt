@@ -1,18 +1,8 @@
 use Rattle.std.proofs.Common.{◌≡◌, ◌≤◌, ◌+◌, ◌∙◌, sym, ap, arith, ℕ, length, vec_len, length-take}
-use Rattle.std.proofs.lemmas.Result.{err_from_is_err_and}
-use Rattle.llapd.specs.PlanBytes.{GaveFront, Lost}
-use Rattle.llapd.proofs.PlanBytes.{read_next, read_to_end, lost_later}
+use Rattle.llapd.specs.PlanBytes.{GaveFront}
+use Rattle.llapd.proofs.PlanBytes.{read_next, read_to_end}
 use Rattle.llapd.proofs.plan_bytes.read_all.Goals as goal
 use Rattle.llapd.proofs.plan_bytes.read_all.Goals.{else-loop-chunk-test, then-loop-chunk-test+in_ok-read_some+then-branch-eq0}
-
-pub returns-in_err-read_some-clause-lost : goal.returns-in_err-read_some-clause-lost
-returns-in_err-read_some-clause-lost g c =
-    let p = err_from_is_err_and c.from_residual.result c.from_residual.ensures.1 in
-    let fits : vec_len c.loop-chunk.bytes + length c.read_some.new.chunk ≤ c.args.most = omega (arith, length-take {A = ℕ}) in
-    rw p.1
-    (lost_later (g.P.Source.left c.args.plan.now) (g.P.Source.left c.loop-chunk.plan) (g.P.Source.left c.read_some.new.plan)
-    (vec_len c.loop-chunk.bytes) (length c.read_some.new.chunk) c.args.most c.loop-chunk.bytes.items fits
-    c.loop-chunk.invariant.front c.in_err-read_some.ensures.lost)
 
 pub loop-chunk-preserved : goal.loop-chunk-preserved
 loop-chunk-preserved g c = record {
