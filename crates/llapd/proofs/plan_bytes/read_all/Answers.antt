@@ -1,6 +1,6 @@
-use Rattle.std.proofs.Common.{◌≡◌, ◌≤◌, ◌+◌, ◌∙◌, sym, ap, arith, ℕ, length, vec_len, length-take}
+use Rattle.std.proofs.Common.{◌≡◌, ◌≤◌, ◌+◌, arith, ℕ, length, vec_len, length-take}
 use Rattle.std.proofs.lemmas.Result.{err_from_is_err_and}
-use Rattle.llapd.specs.PlanBytes.{GaveFront, Lost}
+use Rattle.llapd.specs.PlanBytes.{GaveFront}
 use Rattle.llapd.proofs.PlanBytes.{read_next, read_to_end, lost_later}
 use Rattle.llapd.proofs.plan_bytes.read_all.Goals as goal
 use Rattle.llapd.proofs.plan_bytes.read_all.Goals.{else-loop-chunk-test, then-loop-chunk-test+in_ok-read_some+then-branch-eq0}
