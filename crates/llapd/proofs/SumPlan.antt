@@ -1,16 +1,14 @@
 -- The reader of a plan of one sum meets the relation, both ways.
-use Rattle.std.proofs.Common.{◌≡◌, ◌≢◌, ℕ, ◌+◌, ◌-◌, ◌<◌, ◌≤◌, ◌⊎◌, List, [], ◌∷◌, ◌++◌, length, take, drop, get_or, eqb, ltb, Bool, true, false, cond, All, Option, Some, None, option_map, refl, sym, ◌∙◌, ap, subst, inl, inr, ⊎_elim, arith, position, codes, length-append, append_assoc}
+use Rattle.std.proofs.Common.{◌≡◌, ℕ, ◌+◌, ◌-◌, ◌<◌, ◌≤◌, ◌⊎◌, List, [], ◌∷◌, ◌++◌, length, take, drop, get_or, eqb, Bool, true, false, Option, Some, None, option_map, refl, sym, ◌∙◌, ap, subst, inl, inr, ⊎_elim, arith, position, codes, length-append, append_assoc}
 use Rattle.std.specs.List.{position_or_len}
 use Rattle.std.specs.Str.{IsUtf8, bytes_eq}
-use Rattle.std.specs.Option.{option_and_then}
 use Rattle.std.proofs.lemmas.Bool.{eqb-true, false≢true}
 use Rattle.std.proofs.lemmas.Bool.Decides.{nat_tests}
-use Rattle.std.proofs.lemmas.Grind.{common_steps}
 use Rattle.std.proofs.lemmas.List.{take_at, drop_at, drop_more, drop_all, get_or_at, get_or_append_left, get_or-append_right, take-append-drop}
 use Rattle.std.proofs.lemmas.List.Elements.{All-weaker, All-get_or}
 use Rattle.std.proofs.lemmas.List.Sums.{position_or_len_is}
 use Rattle.std.proofs.lemmas.List.Quantifiers.{position-Some}
-use Rattle.std.proofs.lemmas.Option.{option_and_then_some, cond_some, none-some, some_pair_parts, same_Some}
+use Rattle.std.proofs.lemmas.Option.{option_and_then_some, cond_some, none-some, same_Some}
 use Rattle.std.proofs.lemmas.Slice.Eq.{bytes_eq-Decides}
 use Rattle.std.proofs.lemmas.Str.{IsUtf8-from_ascii}
 use Rattle.std.proofs.lemmas.Str.Ascii.{IsAscii-from_all}
@@ -30,6 +28,12 @@ pub name_is_utf8 : (bs : List ℕ) → IsName bs → IsUtf8 bs
 name_is_utf8 bs n =
     IsUtf8-from_ascii bs (IsAscii-from_all bs (All-weaker (λ b. is_name_byte b ≡ true) (λ b. b < 128) byte_below bs n.bytes))
 
+cut-found : (bs xs ys : List ℕ) → position (λ b. eqb b 32) bs ≡ Some (length xs)
+    → take (length xs) bs ≡ xs → drop (length xs + 1) bs ≡ ys → cut_at_space bs ≡ Some (xs, ys)
+cut-found bs xs ys found front back =
+    let parts : (take (length xs) bs, drop (length xs + 1) bs) ≡ (xs, ys) = cc (front, back) in
+    ap (option_map (λ (i : ℕ). (take i bs, drop (i + 1) bs))) found ∙ ap Some parts
+
 -- the first space of a word without one, a space and more
 cut-joined : (xs ys : List ℕ) → IsName xs → cut_at_space (xs ++ 32 ∷ ys) ≡ Some (xs, ys)
 cut-joined xs ys n =
@@ -43,7 +47,7 @@ cut-joined xs ys n =
     let front : take (length xs) (xs ++ 32 ∷ ys) ≡ xs = take_at xs (32 ∷ ys) (length xs) refl in
     let back : drop (length xs + 1) (xs ++ 32 ∷ ys) ≡ ys =
     rw (← append_assoc xs (32 ∷ []) ys) (drop_at (xs ++ 32 ∷ []) ys (length xs + 1) (length-append xs (32 ∷ []))) in
-    ap (option_map (λ (i : ℕ). (take i (xs ++ 32 ∷ ys), drop (i + 1) (xs ++ 32 ∷ ys)))) found ∙ cc
+    cut-found (xs ++ 32 ∷ ys) xs ys found front back
 
 cut-parts-from : (bs : List ℕ) (at : Option ℕ) (x : List ℕ × List ℕ) → position (λ b. eqb b 32) bs ≡ at
     → option_map (λ (i : ℕ). (take i bs, drop (i + 1) bs)) at ≡ Some x → bs ≡ x.0 ++ 32 ∷ x.1

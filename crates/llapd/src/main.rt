@@ -4,6 +4,8 @@
 mod line;
 mod plan_bytes;
 mod sum_plan;
+#[cfg(test)]
+mod tests;
 mod total;
 mod words;
 

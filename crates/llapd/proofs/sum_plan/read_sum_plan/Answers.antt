@@ -1,4 +1,4 @@
-use Rattle.std.proofs.Common.{sym, ap, ◌∙◌, ◌≡◌, Some, None}
+use Rattle.std.proofs.Common.{sym, ap, ◌∙◌, ◌≡◌, Some}
 use Rattle.std.proofs.lemmas.Bool.{false≢true}
 use Rattle.llapd.specs.SumWords.{words_of, without_end}
 use Rattle.llapd.proofs.SumPlan.{plan_made, no_plan, no_words}
