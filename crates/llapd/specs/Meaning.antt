@@ -1,8 +1,9 @@
 -- What a fragment that sums one column means, on the files' bytes. Source: Apache ORC specification v1 for the
 -- tail, the footer and the runs; the outcomes are this project's own.
-use Rattle.std.specs.Prelude.{◌≡◌, ◌≢◌, ℕ, ◌+◌, ◌==◌, Bool, List, [], ◌∷◌, length, slice_range, slice_get, Option, Some, None, Result, Ok, Err, ℤ, pos, ◌+ℤ◌, fold, FitsSigned, w64, if◌then◌else◌}
+use Rattle.std.specs.Prelude.{◌≡◌, ◌≢◌, ℕ, ◌+◌, ◌==◌, Bool, true, false, List, [], ◌∷◌, length, slice_range, slice_get, Option, Some, None, Result, Ok, Err, ℤ, pos, ◌+ℤ◌, fold, FitsSigned, w64, if◌then◌else◌}
 use Rattle.outside.specs.Files.{Files, file_named, bytes_of}
 use Rattle.outside.specs.Runs.{Spells, Breaks}
+use Rattle.orc_rle.specs.IntRun1.{IntRun1, int_run1}
 use Rattle.outside.specs.declared.file_ref.FileRef.{FileRef}
 use Rattle.outside.specs.declared.run_fault.RunFault.{RunFault}
 use Rattle.orc_tail.specs.declared.stripe.Stripe.{Stripe}
@@ -73,3 +74,39 @@ bytes_at files (Some file) = bytes_of (Some files) file.number
 -- the column of that name in the file of that name
 abbrev pub found : Files → List ℕ → List ℕ → Found
 found files file column = found_bytes column (bytes_at files (file_named file files))
+
+-- the total of values
+abbrev pub total_of : List ℤ → ℤ
+total_of values = fold ◌+ℤ◌ (pos 0) values
+
+-- The total of the values is what the outcome says: none where there is no value, or a number of 64 bits; or it
+-- leaves 64 bits. Only the whole total counts.
+abbrev pub IsTotal : List ℤ → Outcome → Type 0
+IsTotal values (Sum None) = values ≡ []
+IsTotal values (Sum (Some total)) = (values ≢ []) × (total ≡ total_of values) × FitsSigned w64 total
+IsTotal values Overflow = ¬ (FitsSigned w64 (total_of values))
+IsTotal values NoFile = ⊥
+IsTotal values NotBuilt = ⊥
+IsTotal values ReadFault = ⊥
+
+-- The stream spells so many values, and the outcome is their total.
+pub record Sums (rows : ℕ) (stream : List ℕ) (outcome : Outcome) : Type 0 where
+  pub values : List ℤ
+  pub rest : List ℕ
+  pub count : length values ≡ rows
+  pub spells : Spells (IntRun1 true) stream values rest
+  pub total : IsTotal values outcome
+
+-- the stream doesn't spell so many values
+abbrev pub BreaksBefore : ℕ → List ℕ → Type 0
+BreaksBefore rows stream = (fault : RunFault) × Breaks (IntRun1 true) (int_run1 true) stream rows fault
+
+-- What the scan's outcome is by what it finds. A column that isn't whole is a form that isn't built.
+abbrev pub Means : Found → Outcome → Type 0
+Means no_file outcome = outcome ≡ NoFile
+Means not_built outcome = outcome ≡ NotBuilt
+Means (values_in rows stream) NotBuilt = BreaksBefore rows stream
+Means (values_in rows stream) (Sum total) = Sums rows stream (Sum total)
+Means (values_in rows stream) Overflow = Sums rows stream Overflow
+Means (values_in rows stream) NoFile = ⊥
+Means (values_in rows stream) ReadFault = ⊥

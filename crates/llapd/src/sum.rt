@@ -1,0 +1,55 @@
+//! The sum of the values that a stream spells.
+ghost use Rattle.std.specs.Prelude.{◌≡◌, ◌<◌, ◌≤◌, ◌+◌, ◌*◌, ◌^◌, ℕ, List, Some, IfOk, IfSome, IfNone, length, pos, neg_ℤ, ◌≤ℤ◌};
+ghost use Rattle.outside.specs.SliceFeed.{rest_of};
+ghost use Rattle.llapd.specs.Meaning.{Means, values_in};
+ghost use Rattle.llapd.specs.Sum.{SumsTo, BreaksIn};
+
+use crate::line::Outcome;
+use crate::total::total_with;
+use orc_rle::IntRuns1;
+use outside::{NoMemory, SliceFeed};
+use std::alloc::Global;
+
+/// How many values are read at once.
+const BATCH: usize = 1024;
+
+/// The total of the values that stream 0 of a feed spells, or none where it doesn't spell so many.
+fn total_of_runs(feed: &mut SliceFeed<'_>, rows: u64) -> Option<i128>
+    ensures summed { IfSome result (λ total. (stream : List ℕ) → rest_of feed.old 0 ≡ Some stream → SumsTo rows stream total) }
+    ensures broken { IfNone result ((stream : List ℕ) → rest_of feed.old 0 ≡ Some stream → BreaksIn rows stream) }
+{
+    let mut runs = IntRuns1::new(0, true);
+    let mut batch = [0; BATCH];
+    let mut total = 0;
+    let mut given = 0;
+    while given < rows {
+        let count = (rows - given).min(BATCH as u64);
+        let (out, _) = batch.split_at_mut(count as usize);
+        if runs.fill(feed, out).is_err() {
+            return None;
+        }
+        total = total_with(total, given, out);
+        given += count;
+    }
+    Some(total)
+}
+
+/// The outcome by the stream of a column's values: their total, or none where there is no value.
+///
+/// Refuses only for want of memory.
+pub fn sum_of_stream(alloc: Global, rows: u64, stream: &[u8]) -> Result<Outcome, NoMemory>
+    ensures { IfOk result (λ outcome. Means (values_in rows stream.now) outcome) }
+{
+    let Ok(streams) = vec![in alloc; stream] else {
+        return Err(NoMemory);
+    };
+    let mut feed = SliceFeed::new(streams);
+    Ok(match total_of_runs(&mut feed, rows) {
+        None => Outcome::NotBuilt,
+        Some(_) if rows == 0 => Outcome::Sum(None),
+        Some(total) => match i64::try_from(total) {
+            Ok(total) => Outcome::Sum(Some(total)),
+            Err(_) => Outcome::Overflow,
+        },
+    })
+}
