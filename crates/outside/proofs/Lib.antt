@@ -1,5 +1,7 @@
 pub mod Cause
+pub mod Filling
 pub mod Reading
 pub mod Runs
 pub mod Slices
 pub mod Varint
+pub mod VarintRuns

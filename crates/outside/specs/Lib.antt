@@ -2,6 +2,7 @@ pub mod Pieces
 pub mod Cause
 pub mod Feed
 pub mod FeedLaws
+pub mod Filling
 pub mod Reading
 pub mod Runs
 pub mod SliceFeed
