@@ -8,3 +8,6 @@ mod number;
 mod run1;
 
 pub use int_runs1::IntRuns1;
+
+#[cfg(test)]
+mod tests;
