@@ -1,0 +1,4 @@
+pub mod IntDecoder
+pub mod IntRun1
+pub use Rattle.outside.specs.Filling
+pub use Rattle.outside.specs.Runs
