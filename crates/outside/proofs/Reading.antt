@@ -12,7 +12,7 @@ use Rattle.outside.specs.Reading.{Reader, go_on, bind, value, mapped, exactly, I
 
 -- ---- on lists
 
-AllOf-append : (stream : ℕ) (xs ys : List Taken) → AllOf stream xs → AllOf stream ys → AllOf stream (xs ++ ys)
+pub AllOf-append : (stream : ℕ) (xs ys : List Taken) → AllOf stream xs → AllOf stream ys → AllOf stream (xs ++ ys)
 AllOf-append stream [] ys p q = q
 AllOf-append stream (x ∷ xs) ys p q = (p.0, AllOf-append stream xs ys p.1 q)
 

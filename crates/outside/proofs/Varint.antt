@@ -11,15 +11,15 @@ use Rattle.outside.specs.Varint.{varint, groups_within, varints, open_varint, op
 
 -- ---- one more byte
 
-within-last : (room byte : ℕ) (more : List ℕ) → byte < 128 → groups_within (suc room) (byte ∷ more) ≡ Ok (byte, more)
+pub within-last : (room byte : ℕ) (more : List ℕ) → byte < 128 → groups_within (suc room) (byte ∷ more) ≡ Ok (byte, more)
 unfolding groups_within
 within-last room byte more h = let t : ltb byte 128 ≡ true = lt-ltb byte 128 h in rw t refl
 
-within-more : (room byte : ℕ) (more : List ℕ) → 128 ≤ byte → groups_within (suc room) (byte ∷ more) ≡ mapped (λ high. byte % 128 + 128 * high) (groups_within room) more
+pub within-more : (room byte : ℕ) (more : List ℕ) → 128 ≤ byte → groups_within (suc room) (byte ∷ more) ≡ mapped (λ high. byte % 128 + 128 * high) (groups_within room) more
 unfolding groups_within
 within-more room byte more h = let t : ltb byte 128 ≡ false = le-ltb byte 128 h in rw t refl
 
-within-none : (more : List ℕ) → groups_within 0 more ≡ Err LongVarint
+pub within-none : (more : List ℕ) → groups_within 0 more ≡ Err LongVarint
 unfolding groups_within
 within-none more = refl
 
@@ -126,7 +126,7 @@ unfolding open_varints
 open_varints-nothing groups count [] bytes e = refl
 open_varints-nothing groups count (x ∷ out) bytes e = absurd (omega arith)
 
-within-ends : (room : ℕ) → groups_within (suc room) [] ≡ Err StreamEnds
+pub within-ends : (room : ℕ) → groups_within (suc room) [] ≡ Err StreamEnds
 unfolding groups_within
 within-ends room = refl
 
@@ -145,3 +145,13 @@ one_of (Err fault) = refl
 pub varint-varints : (bytes : List ℕ) → varint bytes ≡ mapped (λ numbers. get_or numbers 0 0) (varints 1) bytes
 unfolding varints
 varint-varints bytes = one_of (varint bytes)
+
+-- ---- numbers, one after the other
+
+pub varints-zero : (bytes : List ℕ) → varints 0 bytes ≡ Ok ([], bytes)
+unfolding varints
+varints-zero bytes = refl
+
+pub varints-step : (count : ℕ) (bytes : List ℕ) → varints (suc count) bytes ≡ go_on (varint bytes) (λ number. mapped (λ others. number ∷ others) (varints count))
+unfolding varints
+varints-step count bytes = refl

@@ -3,6 +3,7 @@ pub mod Failing
 pub mod Feed
 pub mod FeedLaws
 pub mod Files
+pub mod Filling
 pub mod Folder
 pub mod Followed
 pub mod Log
