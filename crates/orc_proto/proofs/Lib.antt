@@ -1,0 +1,5 @@
+mod Groups
+mod Steps
+mod Items
+mod Varints
+mod Messages
