@@ -3,3 +3,4 @@ mod Steps
 mod Items
 mod Varints
 mod Messages
+mod Shortest

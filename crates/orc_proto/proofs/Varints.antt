@@ -15,7 +15,7 @@ pub record IsTaken (room : ℕ) (left : List ℕ) (number : ℕ) (rest : List �
   pub number_is : number ≡ groups spelling
   pub joined : left ≡ spelling ++ rest
 
-IsClosed-cons : (b : ℕ) (bs : List ℕ) → 128 ≤ b → IsClosed bs → IsClosed (b ∷ bs)
+pub IsClosed-cons : (b : ℕ) (bs : List ℕ) → 128 ≤ b → IsClosed bs → IsClosed (b ∷ bs)
 IsClosed-cons b [] large closed = absurd closed
 IsClosed-cons b (c ∷ bs) large closed = (large, closed)
 
