@@ -74,5 +74,5 @@ goes_on place bytes value b rest group lt large so_far =
     let q : 7 * (group + 1) ≡ 7 * group + 7 = omega arith in
     let p : 2 ^ (7 * (group + 1)) ≡ 2 ^ (7 * group) * 128 = rw q (pow-add 2 (7 * group) 7) in
     let one : above (2 ^ (7 * group)) value (groups_at (10 - group) place (b ∷ rest)) ≡ above (2 ^ (7 * (group + 1))) (with_group value b group) (groups_at (10 - (group + 1)) place rest) =
-      rw (k, le-ltb b 128 large) (above-then (2 ^ (7 * group)) (2 ^ (7 * (group + 1))) value (b % 128) (with_group value b group) (groups_at (10 - (group + 1)) place rest) p (with_group-is value b group)) in
+    rw (k, le-ltb b 128 large) (above-then (2 ^ (7 * group)) (2 ^ (7 * (group + 1))) value (b % 128) (with_group value b group) (groups_at (10 - (group + 1)) place rest) p (with_group-is value b group)) in
     sym one ∙ so_far

@@ -41,8 +41,8 @@ enough Spells item_at reads zero many total (b ∷ left) h k = absurd (omega ari
 enough Spells item_at reads (suc few) zero total (b ∷ left) h k = absurd (omega arith)
 enough {X} Spells item_at reads (suc few) (suc many) total (b ∷ left) h k =
     let same = λ (x : X) (rest : List ℕ) (e : item_at (total - length (b ∷ left)) (b ∷ left) ≡ Ok (x, rest)).
-      let fewer = shorter Spells item_at reads (total - length (b ∷ left)) (b ∷ left) x rest e in
-      enough Spells item_at reads few many total rest (omega (arith, fewer)) (omega (arith, fewer)) in
+    let fewer = shorter Spells item_at reads (total - length (b ∷ left)) (b ∷ left) x rest e in
+    enough Spells item_at reads few many total rest (omega (arith, fewer)) (omega (arith, fewer)) in
     items-step item_at few total (b ∷ left) (omega arith)
     ∙ then_same (item_at (total - length (b ∷ left)) (b ∷ left)) (λ others. items_within few item_at total others) (λ others. items_within many item_at total others) same
     ∙ sym (items-step item_at many total (b ∷ left) (omega arith))
@@ -60,7 +60,7 @@ pub item_read : {X : Type 0} (Spells : List ℕ → X → Type 0) (item_at : ℕ
 item_read {X} Spells item_at reads total left x rest e =
     let fewer = shorter Spells item_at reads (total - length left) left x rest e in
     let one : items_within (suc (length left)) item_at total left ≡ Ok x ∷ items_within (length left) item_at total rest =
-      items-step item_at (length left) total left (omega (arith, fewer)) ∙ rw e refl in
+    items-step item_at (length left) total left (omega (arith, fewer)) ∙ rw e refl in
     enough Spells item_at reads (length left) (suc (length left)) total left (omega arith) (omega arith)
     ∙ one
     ∙ ap (λ (others : List (Result X WireFault)). Ok x ∷ others) (enough Spells item_at reads (length left) (length rest) total rest (omega (arith, fewer)) (omega arith))

@@ -24,11 +24,11 @@ bytes_found count place left xs rest e =
     elim (cond_is (ltb (length left) count) (Err (Truncated place)) (Ok (take count left, drop count left)) (Ok (xs, rest)) e) [
       | inl short ↦ absurd (let bad = short.1 in cc)
       | inr long ↦
-        let enough : count ≤ length left = ltb-false _ _ long.0 in
-        let same = same_read (take count left, drop count left) (xs, rest) long.1 in
-        let front : take count left ≡ xs = ap (λ (p : List ℕ × List ℕ). p.0) same in
-        let back : drop count left ≡ rest = ap (λ (p : List ℕ × List ℕ). p.1) same in
-        record { joined = rw (← front, ← back) (sym (take-append-drop count left)); len = rw (← front) (omega (arith, length-take count left)) }
+          let enough : count ≤ length left = ltb-false _ _ long.0 in
+          let same = same_read (take count left, drop count left) (xs, rest) long.1 in
+          let front : take count left ≡ xs = ap (λ (p : List ℕ × List ℕ). p.0) same in
+          let back : drop count left ≡ rest = ap (λ (p : List ℕ × List ℕ). p.1) same in
+          record { joined = rw (← front, ← back) (sym (take-append-drop count left)); len = rw (← front) (omega (arith, length-take count left)) }
     ]
 
 bytes_again : (count place : ℕ) (xs rest : List ℕ) → length xs ≡ count → bytes_at count place (xs ++ rest) ≡ Ok (xs, rest)
@@ -117,14 +117,14 @@ number_found place number read e =
       | inr some ↦ elim (cond_is (ltb greatest_number number) (Err (BadKey place)) (Ok number) (Ok read) some.1) [
         | inl bad ↦ absurd (let no = bad.1 in cc)
         | inr small ↦
-          let most : number ≤ greatest_number = ltb-false _ _ small.0 in
-          let same = same_read number read small.1 in
-          elim (eqb_tells number 0) [
-            | inl z ↦ absurd (let no = z.0 in let yes = some.0 in cc)
-            | inr z ↦
-              let nonzero = z.1 in
-              record { same = same; at_least_one = omega arith; at_most = rw (← same) most }
-          ]
+            let most : number ≤ greatest_number = ltb-false _ _ small.0 in
+            let same = same_read number read small.1 in
+            elim (eqb_tells number 0) [
+              | inl z ↦ absurd (let no = z.0 in let yes = some.0 in cc)
+              | inr z ↦
+                  let nonzero = z.1 in
+                  record { same = same; at_least_one = omega arith; at_most = rw (← same) most }
+            ]
       ]
     ]
 
@@ -150,15 +150,15 @@ field_found place left field rest e =
     let key_is : k.0.0 ≡ 8 * m.0 + wire_type v.0.0 = omega (arith, number.same, content.wire_is) in
     let joined : left ≡ (key.0 ++ content.spelling) ++ v.0.1 = key.2 ∙ ap (λ (xs : List ℕ). key.0 ++ xs) content.joined ∙ sym (append_assoc key.0 content.spelling v.0.1) in
     let spelled : SpellsField (key.0 ++ content.spelling) made =
-      record {
-        at_least_one = number.at_least_one;
-        at_most = number.at_most;
-        key = key.0;
-        value = content.spelling;
-        key_spelled = subst (λ (n : ℕ). SpellsVarint key.0 n) key_is key.1;
-        value_spelled = content.spelled;
-        joined = refl;
-      } in
+    record {
+      at_least_one = number.at_least_one;
+      at_most = number.at_most;
+      key = key.0;
+      value = content.spelling;
+      key_spelled = subst (λ (n : ℕ). SpellsVarint key.0 n) key_is key.1;
+      value_spelled = content.spelled;
+      joined = refl;
+    } in
     subst (λ (p : Entry × List ℕ). (spelling : List ℕ) × SpellsField spelling p.0 × (left ≡ spelling ++ p.1)) same (key.0 ++ content.spelling, spelled, joined)
 
 wire_type-small : (content : Content) → wire_type content < 8
@@ -180,7 +180,7 @@ field_again place spelling rest field spelled =
       number,
       wire,
       number_again place field.number spelled.at_least_one spelled.at_most,
-      content_again place spelled.value rest field.value spelled.value_spelled
+      content_again place spelled.value rest field.value spelled.value_spelled,
     ) refl
 
 field_has_bytes : (spelling : List ℕ) (field : Entry) → SpellsField spelling field → 1 ≤ length spelling

@@ -26,8 +26,8 @@ within-more (suc more) value h =
     elim (cases_lt value 128) [
       | inl small ↦ within-small (suc more) value small ∙ sym (within-small (suc (suc more)) value small)
       | inr large ↦
-        let left : value / 128 < 128 ^ suc more = omega (arith, power (suc more)) in
-        within-large more value large ∙ ap (λ (bytes : List ℕ). (value % 128 + 128) ∷ bytes) (within-more more (value / 128) left) ∙ sym (within-large (suc more) value large)
+          let left : value / 128 < 128 ^ suc more = omega (arith, power (suc more)) in
+          within-large more value large ∙ ap (λ (bytes : List ℕ). (value % 128 + 128) ∷ bytes) (within-more more (value / 128) left) ∙ sym (within-large (suc more) value large)
     ]
 
 pub shortest-small : (value : ℕ) → value < 128 → shortest value ≡ value ∷ []
@@ -63,8 +63,8 @@ within-closed (suc more) value h =
     elim (cases_lt value 128) [
       | inl small ↦ rw (within-small (suc more) value small) small
       | inr large ↦
-        let left : value / 128 < 128 ^ suc more = omega (arith, power (suc more)) in
-        rw (within-large more value large) (IsClosed-cons (value % 128 + 128) (shortest_within more (value / 128)) (omega arith) (within-closed more (value / 128) left))
+          let left : value / 128 < 128 ^ suc more = omega (arith, power (suc more)) in
+          rw (within-large more value large) (IsClosed-cons (value % 128 + 128) (shortest_within more (value / 128)) (omega arith) (within-closed more (value / 128) left))
     ]
 
 within-groups : (more value : ℕ) → value < 128 ^ suc more → groups (shortest_within more value) ≡ value
@@ -75,9 +75,9 @@ within-groups (suc more) value h =
     elim (cases_lt value 128) [
       | inl small ↦ rw (within-small (suc more) value small) (omega arith)
       | inr large ↦
-        let left : value / 128 < 128 ^ suc more = omega (arith, power (suc more)) in
-        let others = within-groups more (value / 128) left in
-        rw (within-large more value large, others) (omega arith)
+          let left : value / 128 < 128 ^ suc more = omega (arith, power (suc more)) in
+          let others = within-groups more (value / 128) left in
+          rw (within-large more value large, others) (omega arith)
     ]
 
 pub shortest_spells : (value : ℕ) → value < 2 ^ 64 → SpellsVarint (shortest value) value
@@ -103,8 +103,8 @@ within-least (suc more) value (suc (suc count)) some h =
     elim (cases_lt value 128) [
       | inl small ↦ rw (within-small (suc more) value small) (omega arith)
       | inr large ↦
-        let left : value / 128 < 128 ^ suc count = omega (arith, power (suc count)) in
-        rw (within-large more value large) (omega (arith, within-least more (value / 128) (suc count) (omega arith) left))
+          let left : value / 128 < 128 ^ suc count = omega (arith, power (suc count)) in
+          rw (within-large more value large) (omega (arith, within-least more (value / 128) (suc count) (omega arith) left))
     ]
 
 some_bytes : (bytes : List ℕ) → IsClosed bytes → 1 ≤ length bytes

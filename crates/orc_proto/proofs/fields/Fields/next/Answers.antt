@@ -21,6 +21,7 @@ returns-in-Ok c = sym c.self.view_is ∙ item_read SpellsField field_at fields_r
 
 pub returns-in-Err : goal.returns-in-Err
 returns-in-Err c =
-    let some = eqb-false _ _ (sym c.if-is_empty.ensures) in
-    (sym c.self.view_is ∙ item_broken SpellsField field_at fields_read c.self.inside.total c.self.inside.rest.now c.in-Err.fault (omega arith) c.in-Err.ensures,
-      items-nil field_at 0 c.self.inside.total)
+    let some = eqb-false _ _ (sym c.if-is_empty.ensures) in (
+      sym c.self.view_is ∙ item_broken SpellsField field_at fields_read c.self.inside.total c.self.inside.rest.now c.in-Err.fault (omega arith) c.in-Err.ensures,
+      items-nil field_at 0 c.self.inside.total,
+    )

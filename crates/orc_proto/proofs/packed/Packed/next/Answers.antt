@@ -21,6 +21,7 @@ returns-in-Ok c = sym c.self.view_is ∙ item_read SpellsVarint varint_at varint
 
 pub returns-in-Err : goal.returns-in-Err
 returns-in-Err c =
-    let some = eqb-false _ _ (sym c.if-is_empty.ensures) in
-    (sym c.self.view_is ∙ item_broken SpellsVarint varint_at varints_read c.self.inside.total c.self.inside.rest.now c.in-Err.fault (omega arith) c.in-Err.ensures,
-      items-nil varint_at 0 c.self.inside.total)
+    let some = eqb-false _ _ (sym c.if-is_empty.ensures) in (
+      sym c.self.view_is ∙ item_broken SpellsVarint varint_at varints_read c.self.inside.total c.self.inside.rest.now c.in-Err.fault (omega arith) c.in-Err.ensures,
+      items-nil varint_at 0 c.self.inside.total,
+    )

@@ -1,6 +1,6 @@
 use Rattle.std.proofs.Common.{subst, ◌∷◌, List, ℕ, arith}
 use Rattle.orc_proto.proofs.Groups.{IsSoFar, begins, runs_out, is_long, ends, goes_on}
-use Rattle.orc_proto.proofs.varint.varint_at.Goals as goal
+use Rattle.orc_proto.proofs.varint.read_varint.Goals as goal
 
 pub loop-group-init : goal.loop-group-init
 loop-group-init c = begins c.args.place c.args.bytes.now
