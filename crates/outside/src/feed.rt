@@ -21,8 +21,8 @@ pub trait Feed {
 
     /// Takes bytes from the front of a stream to the front of `into`, and answers how many.
     ///
-    /// Answers 0 for a non-empty `into` exactly at the end of the stream. `Failed` comes only where the count of faults rose in this call, and then nothing
-    /// was taken. What stands in `into` behind the bytes that were taken isn't promised.
+    /// Answers 0 for a non-empty `into` exactly at the end of the stream. `Failed` comes only where the count of
+    /// faults rose in this call, and then nothing was taken. What stands in `into` behind the bytes that were taken isn't promised.
     fn take(&mut self, stream: u32, into: &mut [u8]) -> Result<usize, Failed>
         ensures room { IfOk result (λ len. len ≤ length into.old) }
         ensures bytes { MatchResult result

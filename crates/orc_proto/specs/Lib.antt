@@ -1,0 +1,4 @@
+pub mod Varint
+pub mod Message
+pub mod Reading
+pub mod Laws
