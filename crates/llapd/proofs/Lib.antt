@@ -1,2 +1,3 @@
 pub mod PlanBytes
 pub mod SumPlan
+pub mod Sums

@@ -1,8 +1,7 @@
-pub mod Headline
 pub mod Line
-pub mod Meaning
 pub mod PlanBytes
-pub mod StatusCode
+pub mod Sum
 pub mod SumPlan
 pub mod SumWords
+pub mod Total
 pub mod Words

@@ -3,6 +3,7 @@
 
 mod line;
 mod plan_bytes;
+mod sum;
 mod sum_plan;
 #[cfg(test)]
 mod tests;

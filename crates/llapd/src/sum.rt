@@ -1,8 +1,9 @@
 //! The sum of the values that a stream spells.
-ghost use Rattle.std.specs.Prelude.{◌≡◌, ◌<◌, ◌≤◌, ◌+◌, ◌*◌, ◌^◌, ℕ, List, Some, IfOk, IfSome, IfNone, length, pos, neg_ℤ, ◌≤ℤ◌};
+ghost use Rattle.std.specs.Prelude.{◌≡◌, ◌<◌, ◌≤◌, ◌+◌, ◌*◌, ◌^◌, ℕ, List, Some, IfOk, IfSome, IfNone, length, pos, neg_ℤ, ◌≤ℤ◌, FitsSigned};
+ghost use Rattle.std.specs.Int.{w128};
 ghost use Rattle.outside.specs.SliceFeed.{rest_of};
-ghost use Rattle.llapd.specs.Meaning.{Means, values_in};
-ghost use Rattle.llapd.specs.Sum.{SumsTo, BreaksIn};
+ghost use Rattle.llapd.specs.Total.{IsOutcomeOf, BreaksBefore};
+ghost use Rattle.llapd.specs.Sum.{SumsTo};
 
 use crate::line::Outcome;
 use crate::total::total_with;
@@ -16,7 +17,8 @@ const BATCH: usize = 1024;
 /// The total of the values that stream 0 of a feed spells, or none where it doesn't spell so many.
 fn total_of_runs(feed: &mut SliceFeed<'_>, rows: u64) -> Option<i128>
     ensures summed { IfSome result (λ total. (stream : List ℕ) → rest_of feed.old 0 ≡ Some stream → SumsTo rows stream total) }
-    ensures broken { IfNone result ((stream : List ℕ) → rest_of feed.old 0 ≡ Some stream → BreaksIn rows stream) }
+    ensures fits { IfSome result (λ total. FitsSigned w128 total) }
+    ensures broken { IfNone result ((stream : List ℕ) → rest_of feed.old 0 ≡ Some stream → BreaksBefore rows stream) }
 {
     let mut runs = IntRuns1::new(0, true);
     let mut batch = [0; BATCH];
@@ -38,7 +40,7 @@ fn total_of_runs(feed: &mut SliceFeed<'_>, rows: u64) -> Option<i128>
 ///
 /// Refuses only for want of memory.
 pub fn sum_of_stream(alloc: Global, rows: u64, stream: &[u8]) -> Result<Outcome, NoMemory>
-    ensures { IfOk result (λ outcome. Means (values_in rows stream.now) outcome) }
+    ensures { IfOk result (λ outcome. IsOutcomeOf rows stream.now outcome) }
 {
     let Ok(streams) = vec![in alloc; stream] else {
         return Err(NoMemory);
