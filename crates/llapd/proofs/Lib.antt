@@ -1,3 +1,5 @@
+pub mod Found
 pub mod PlanBytes
+pub mod Scans
 pub mod SumPlan
 pub mod Sums

@@ -1,5 +1,9 @@
+pub mod Headline
 pub mod Line
+pub mod Meaning
 pub mod PlanBytes
+pub mod Scan
+pub mod StatusCode
 pub mod Sum
 pub mod SumPlan
 pub mod SumWords

@@ -3,6 +3,9 @@
 
 mod line;
 mod plan_bytes;
+mod scan;
+mod status;
+mod stop;
 mod sum;
 mod sum_plan;
 #[cfg(test)]
