@@ -1,0 +1,7 @@
+pub mod Cause
+pub mod Failing
+pub mod Files
+pub mod Log
+pub mod Memory
+pub mod Reads
+pub mod Told
