@@ -1,0 +1,99 @@
+//! A file's footer: its stripes and its types.
+
+ghost use Rattle.std.specs.Prelude.{◌≡◌, ◌≤◌, ◌<◌, ◌^◌, length, nat_le, nat_lt, Ok, All, IfOk};
+ghost use Rattle.orc_proto.specs.Message.{entry_of};
+ghost use Rattle.orc_tail.specs.Reading.{Gives};
+ghost use Rattle.orc_tail.specs.Messages.{footer_field, footer_of};
+ghost use Rattle.orc_tail.specs.Tail.{stripe_end, stripes_within as within, tail_of_footer};
+ghost use Rattle.orc_tail.specs.Views.{footer_view};
+
+use crate::fault::TailFault;
+use crate::stripe::{Stripe, Stripes, read_stripe};
+use crate::tail::Tail;
+use crate::top_columns::top_columns;
+use crate::types::{ColumnType, read_type};
+use orc_proto::{Field, FieldValue, Fields};
+use std::alloc::Global;
+
+/// The most stripes of a file that is read.
+const MOST_STRIPES: usize = 1_000_000;
+
+/// What this project uses of a footer.
+///
+/// Source: Apache ORC specification v1, "Footer".
+#[derive(Debug, Drop)]
+struct Footer<'a> {
+    stripes: Vec<Stripe>,
+    types: Vec<ColumnType<'a>>,
+}
+
+impl<'a> Footer<'a> {
+    /// Takes one field more.
+    fn take(&mut self, alloc: Global, field: &Field<'a>) -> Result<(), TailFault>
+        ensures { Gives (λ _. footer_view self.new) result (footer_field (footer_view self.old) (entry_of field.now)) }
+    {
+        match (field.number, field.value) {
+            (3, FieldValue::Bytes(bytes)) => self.stripes.push(read_stripe(bytes)?)?,
+            (4, FieldValue::Bytes(bytes)) => self.types.push(read_type(alloc, bytes)?)?,
+            _ => {}
+        }
+        Ok(())
+    }
+}
+
+/// Reads a footer.
+fn read_footer(alloc: Global, bytes: &[u8]) -> Result<Footer<'_>, TailFault>
+    ensures exact { Gives footer_view result (footer_of bytes.now) }
+    ensures few { IfOk result (λ footer. length footer.types.items ≤ length bytes.now) }
+{
+    let mut footer = Footer {
+        stripes: Vec::new(alloc),
+        types: Vec::new(alloc),
+    };
+    let mut fields = Fields::new(bytes);
+    while let Some(field) = fields.next() {
+        let field = field?;
+        footer.take(alloc, &field)?;
+    }
+    Ok(footer)
+}
+
+/// Whether a stripe ends in a file of `len` bytes.
+fn ends_by(stripe: &Stripe, len: u64) -> bool
+    ensures { result ≡ nat_le (stripe_end stripe.now) len }
+{
+    let end = u128::from(stripe.at)
+        + u128::from(stripe.index_len)
+        + u128::from(stripe.body_len)
+        + u128::from(stripe.footer_len);
+    end <= u128::from(len)
+}
+
+/// Refuses too many stripes, and one that doesn't end in a file of `len` bytes.
+fn stripes_within(len: u64, stripes: &[Stripe]) -> Result<(), TailFault>
+{
+    if stripes.len() > MOST_STRIPES {
+        return Err(TailFault::TooLarge);
+    }
+    if !stripes.iter().all(|stripe| ends_by(stripe, len)) {
+        return Err(TailFault::OutOfFile);
+    }
+    Ok(())
+}
+
+/// The tail by the footer's bytes, in a file of `len` bytes.
+///
+/// Refuses by Wire, BadTypes, TooLarge or OutOfFile, in this order.
+pub(crate) fn tail_of(alloc: Global, len: u64, bytes: &[u8]) -> Result<Tail, TailFault>
+    requires { length bytes.now < 2 ^ 32 }
+    ensures exact { Gives (λ tail. tail) result (tail_of_footer len bytes.now) }
+    ensures in_file { IfOk result (λ tail. All (λ stripe. stripe_end stripe ≤ len) tail.stripes) }
+{
+    let Footer { stripes, types } = read_footer(alloc, bytes)?;
+    let columns = top_columns(alloc, &types)?;
+    stripes_within(len, &stripes)?;
+    Ok(Tail {
+        stripes: Stripes::new(stripes),
+        columns,
+    })
+}

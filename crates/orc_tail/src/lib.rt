@@ -1,0 +1,23 @@
+//! The tail of an ORC file and the footers of its stripes: where the stripes, columns and streams lie.
+#![tactic(auto)]
+
+mod columns;
+mod encoding;
+mod fault;
+mod footer;
+mod message;
+mod postscript;
+mod stream;
+mod stripe;
+mod stripe_footer;
+mod tail;
+mod top_columns;
+mod types;
+
+pub use columns::{TopColumn, TopColumns};
+pub use encoding::{Encoding, Encodings};
+pub use fault::TailFault;
+pub use stream::{StreamRange, Streams};
+pub use stripe::{Stripe, Stripes};
+pub use stripe_footer::{StripeFooter, stream_of};
+pub use tail::{Tail, column_named};

@@ -1,0 +1,52 @@
+//! The columns of a file's rows, by its types.
+
+ghost use Rattle.std.specs.Prelude.{◌≡◌, ◌≤◌, ◌^◌, length, map};
+ghost use Rattle.orc_tail.specs.Reading.{Gives};
+ghost use Rattle.orc_tail.specs.Tail.{is_root as root_test, children, top_columns as columns_of};
+ghost use Rattle.orc_tail.specs.Views.{type_view};
+
+use crate::columns::{TopColumn, TopColumns};
+use crate::fault::TailFault;
+use crate::types::ColumnType;
+use outside::Bytes;
+use std::alloc::Global;
+
+/// The kind's number of a STRUCT.
+const STRUCT: u64 = 12;
+
+/// Whether type 0 is a STRUCT whose children are types, of which there are `count`, with a name each.
+fn is_root(count: usize, root: &ColumnType) -> bool
+    ensures { result ≡ root_test count (type_view root.now) }
+{
+    root.kind == STRUCT
+        && root.subtypes.len() == root.names.len()
+        && root
+            .subtypes
+            .iter()
+            .all(|child| *child != 0 && *child < count as u64)
+}
+
+/// The children of type 0, in order, each with its type's number and kind and its name.
+///
+/// Refuses by BadTypes where there is no type, or type 0 isn't a STRUCT of types with names.
+pub(crate) fn top_columns(alloc: Global, types: &[ColumnType]) -> Result<TopColumns, TailFault>
+    requires { length types.now ≤ 2 ^ 32 }
+    ensures { Gives (λ columns. columns) result (columns_of (map type_view types.now)) }
+{
+    let Some(root) = types.first() else {
+        return Err(TailFault::BadTypes);
+    };
+    if !is_root(types.len(), root) {
+        return Err(TailFault::BadTypes);
+    }
+    let mut columns = Vec::new(alloc);
+    for i in 0..root.subtypes.len() {
+        let number = root.subtypes[i];
+        columns.push(TopColumn {
+            number: number as u32,
+            kind: types[number as usize].kind,
+            name: Bytes::new(Vec::from_slice(alloc, root.names[i])?),
+        })?;
+    }
+    Ok(TopColumns::new(columns))
+}
