@@ -50,10 +50,14 @@ footer_span len last =
     if len == 0 || nat_lt len (last_byte last + 1) then Err TooShort
     else (or_not_orc (postscript_of (postscript_bytes last)) >>= span_before len (last_byte last))
 
+-- the number of a type that may be a child: not the root's, and below how many types there are
+abbrev pub is_child : ℕ → ℕ → Bool
+is_child count number = not (number == 0) && nat_lt number count
+
 -- condition 7: type 0 is a STRUCT, whose children are types, each with a name
 abbrev pub is_root : ℕ → TypeMessage → Bool
 is_root count root =
-    root.kind == 12 && length root.subtypes == length root.names && list_all (λ child. not (child == 0) && nat_lt child count) root.subtypes
+    root.kind == 12 && length root.subtypes == length root.names && list_all (is_child count) root.subtypes
 
 abbrev pub kind_of : List TypeMessage → ℕ → ℕ
 kind_of types number = slice_index (map (λ t. t.kind) types) number

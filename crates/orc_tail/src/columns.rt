@@ -52,7 +52,7 @@ impl TopColumns {
     }
 
     /// Gives the list back.
-    pub fn into_items(self) -> Vec<TopColumn>
+    pub fn into_vec(self) -> Vec<TopColumn>
         ensures { result.items ≡ self }
     {
         let TopColumns { items } = self;

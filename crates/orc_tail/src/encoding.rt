@@ -75,7 +75,7 @@ impl Encodings {
     }
 
     /// Gives the list back.
-    pub fn into_items(self) -> Vec<Encoding>
+    pub fn into_vec(self) -> Vec<Encoding>
         ensures { result.items ≡ self }
     {
         let Encodings { items } = self;

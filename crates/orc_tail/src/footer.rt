@@ -1,6 +1,6 @@
 //! A file's footer: its stripes and its types.
 
-ghost use Rattle.std.specs.Prelude.{◌≡◌, ◌≤◌, ◌<◌, ◌^◌, length, nat_le, nat_lt, Ok, All, IfOk};
+ghost use Rattle.std.specs.Prelude.{◌≡◌, ◌+◌, ◌≤◌, ◌<◌, ◌^◌, length, nat_le, nat_lt, Ok, Err, All, IfOk, MatchResult};
 ghost use Rattle.orc_proto.specs.Message.{entry_of};
 ghost use Rattle.orc_tail.specs.Reading.{Gives};
 ghost use Rattle.orc_tail.specs.Messages.{footer_field, footer_of};
@@ -30,7 +30,8 @@ struct Footer<'a> {
 impl<'a> Footer<'a> {
     /// Takes one field more.
     fn take(&mut self, alloc: Global, field: &Field<'a>) -> Result<(), TailFault>
-        ensures { Gives (λ _. footer_view self.new) result (footer_field (footer_view self.old) (entry_of field.now)) }
+        ensures exact { Gives (λ _. footer_view self.new) result (footer_field (footer_view self.old) (entry_of field.now)) }
+        ensures few { length self.new.types.items ≤ length self.old.types.items + 1 }
     {
         match (field.number, field.value) {
             (3, FieldValue::Bytes(bytes)) => self.stripes.push(read_stripe(bytes)?)?,
@@ -42,6 +43,7 @@ impl<'a> Footer<'a> {
 }
 
 /// Reads a footer.
+#[tactic(auto, unfolding(crate::specs::Messages::footer_of))]
 fn read_footer(alloc: Global, bytes: &[u8]) -> Result<Footer<'_>, TailFault>
     ensures exact { Gives footer_view result (footer_of bytes.now) }
     ensures few { IfOk result (λ footer. length footer.types.items ≤ length bytes.now) }
@@ -70,7 +72,9 @@ fn ends_by(stripe: &Stripe, len: u64) -> bool
 }
 
 /// Refuses too many stripes, and one that doesn't end in a file of `len` bytes.
+#[tactic(auto, unfolding(crate::specs::Tail::stripes_within))]
 fn stripes_within(len: u64, stripes: &[Stripe]) -> Result<(), TailFault>
+    ensures { MatchResult result (λ _. within len stripes.now ≡ Ok stripes.now) (λ e. within len stripes.now ≡ Err e) }
 {
     if stripes.len() > MOST_STRIPES {
         return Err(TailFault::TooLarge);
@@ -84,6 +88,7 @@ fn stripes_within(len: u64, stripes: &[Stripe]) -> Result<(), TailFault>
 /// The tail by the footer's bytes, in a file of `len` bytes.
 ///
 /// Refuses by Wire, BadTypes, TooLarge or OutOfFile, in this order.
+#[tactic(auto, unfolding(crate::specs::Tail::tail_of_footer))]
 pub(crate) fn tail_of(alloc: Global, len: u64, bytes: &[u8]) -> Result<Tail, TailFault>
     requires { length bytes.now < 2 ^ 32 }
     ensures exact { Gives (λ tail. tail) result (tail_of_footer len bytes.now) }

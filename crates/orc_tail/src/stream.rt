@@ -97,7 +97,7 @@ impl Streams {
     }
 
     /// Gives the list back.
-    pub fn into_items(self) -> Vec<StreamRange>
+    pub fn into_vec(self) -> Vec<StreamRange>
         ensures { result.items ≡ self }
     {
         let Streams { items } = self;

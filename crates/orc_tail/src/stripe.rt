@@ -92,7 +92,7 @@ impl Stripes {
     }
 
     /// Gives the list back.
-    pub fn into_items(self) -> Vec<Stripe>
+    pub fn into_vec(self) -> Vec<Stripe>
         ensures { result.items ≡ self }
     {
         let Stripes { items } = self;

@@ -1,10 +1,10 @@
 //! A stripe's footer: its streams and its encodings.
 
-ghost use Rattle.std.specs.Prelude.{◌≡◌, ◌≤◌, ◌<◌, ◌+◌, ◌^◌, IfOk};
+ghost use Rattle.std.specs.Prelude.{◌≡◌, ◌≤◌, ◌<◌, ◌+◌, ◌^◌, sum_by, option_copied, IfOk, IfErr};
 ghost use Rattle.orc_proto.specs.Message.{entry_of};
-ghost use Rattle.orc_tail.specs.Reading.{Gives};
+ghost use Rattle.orc_tail.specs.Reading.{Gives, Fails};
 ghost use Rattle.orc_tail.specs.Messages.{stripe_footer_field, stripe_footer_of};
-ghost use Rattle.orc_tail.specs.StripeFooter.{streams_within as within, stripe_footer_in, first_stream, FollowEachOther, footer_at};
+ghost use Rattle.orc_tail.specs.StripeFooter.{streams_within as streams_in, placed, stripe_footer_in, first_stream, has_bytes, FollowEachOther, footer_at};
 ghost use Rattle.orc_tail.specs.Views.{stripe_footer_view};
 
 use crate::encoding::{Encoding, Encodings, read_encoding};
@@ -29,16 +29,16 @@ pub struct StripeFooter {
 pub fn stream_of(footer: &StripeFooter, kind: u64, column: u64) -> Option<StreamRange>
     ensures { result ≡ first_stream kind column footer.now.streams }
 {
-    find_stream(footer.streams.as_slice(), kind, column)
+    find_stream(footer.streams.as_slice(), kind, column).copied()
 }
 
-fn find_stream(streams: &[StreamRange], kind: u64, column: u64) -> Option<StreamRange>
-    ensures { result ≡ first_stream kind column streams.now }
+/// The first stream of this kind and column, lent.
+fn find_stream(streams: &[StreamRange], kind: u64, column: u64) -> Option<&StreamRange>
+    ensures { option_copied result ≡ first_stream kind column streams.now }
 {
     streams
         .iter()
         .find(|stream| stream.kind == kind && stream.column == column)
-        .copied()
 }
 
 /// The streams and encodings of a stripe footer, as it spells them.
@@ -63,6 +63,7 @@ impl FooterParts {
 }
 
 /// Reads the streams and encodings of a stripe footer.
+#[tactic(auto, unfolding(crate::specs::Messages::stripe_footer_of))]
 fn read_parts(alloc: Global, bytes: &[u8]) -> Result<FooterParts, TailFault>
     ensures { Gives stripe_footer_view result (stripe_footer_of bytes.now) }
 {
@@ -81,8 +82,12 @@ fn read_parts(alloc: Global, bytes: &[u8]) -> Result<FooterParts, TailFault>
 /// Gives each stream its place, from the stripe's first byte on.
 ///
 /// Refuses by StreamOutOfStripe.
+#[tactic(auto, unfolding(crate::specs::StripeFooter::streams_within))]
 fn place_streams(alloc: Global, stripe: &Stripe, streams: &[Stream]) -> Result<Vec<StreamRange>, TailFault>
     requires { footer_at stripe.now < 2 ^ 64 }
+    ensures ok { IfOk result (λ ranges. (ranges.items ≡ placed stripe.now.at streams.now)
+        × (sum_by (λ s. s.len) streams.now ≤ stripe.now.index_len + stripe.now.body_len)) }
+    ensures out { IfErr result (λ e. Fails e (streams_in stripe.now streams.now)) }
 {
     let end = stripe.at + stripe.index_len + stripe.body_len;
     let mut at = stripe.at;
@@ -103,7 +108,9 @@ fn place_streams(alloc: Global, stripe: &Stripe, streams: &[Stream]) -> Result<V
 }
 
 /// Whether the root column has a PRESENT stream with bytes.
-fn has_root_present(streams: &[StreamRange]) -> bool {
+fn has_root_present(streams: &[StreamRange]) -> bool
+    ensures { result ≡ has_bytes (first_stream 0 0 streams.now) }
+{
     match find_stream(streams, 0, 0) {
         Some(stream) => stream.len > 0,
         None => false,
@@ -113,7 +120,7 @@ fn has_root_present(streams: &[StreamRange]) -> bool {
 /// The footer of a stripe by the footer's bytes.
 ///
 /// Refuses by Wire, StreamOutOfStripe or RootPresent, in this order.
-#[tactic(auto, unfolding(crate::specs::StripeFooter::stripe_footer_in))]
+#[tactic(auto, unfolding(crate::specs::StripeFooter::stripe_footer_in, crate::specs::StripeFooter::streams_within))]
 pub(crate) fn stripe_footer_of_bytes(alloc: Global, stripe: &Stripe, bytes: &[u8]) -> Result<StripeFooter, TailFault>
     requires { footer_at stripe.now < 2 ^ 64 }
     ensures exact { Gives (λ footer. footer) result (stripe_footer_in stripe.now bytes.now) }

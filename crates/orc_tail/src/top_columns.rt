@@ -1,8 +1,9 @@
 //! The columns of a file's rows, by its types.
 
 ghost use Rattle.std.specs.Prelude.{◌≡◌, ◌≤◌, ◌^◌, length, map};
+ghost use Rattle.std.specs.List.{list_all};
 ghost use Rattle.orc_tail.specs.Reading.{Gives};
-ghost use Rattle.orc_tail.specs.Tail.{is_root as root_test, children, top_columns as columns_of};
+ghost use Rattle.orc_tail.specs.Tail.{is_root as root_test, is_child, top_columns as columns_of};
 ghost use Rattle.orc_tail.specs.Views.{type_view};
 
 use crate::columns::{TopColumn, TopColumns};
@@ -20,15 +21,20 @@ fn is_root(count: usize, root: &ColumnType) -> bool
 {
     root.kind == STRUCT
         && root.subtypes.len() == root.names.len()
-        && root
-            .subtypes
-            .iter()
-            .all(|child| *child != 0 && *child < count as u64)
+        && are_types(count as u64, &root.subtypes)
+}
+
+/// Whether each number is that of a type below the root, of `count` types.
+fn are_types(count: u64, numbers: &[u64]) -> bool
+    ensures { result ≡ list_all (is_child count) numbers.now }
+{
+    numbers.iter().all(|number| *number != 0 && *number < count)
 }
 
 /// The children of type 0, in order, each with its type's number and kind and its name.
 ///
 /// Refuses by BadTypes where there is no type, or type 0 isn't a STRUCT of types with names.
+#[tactic(auto, unfolding(crate::specs::Tail::top_columns))]
 pub(crate) fn top_columns(alloc: Global, types: &[ColumnType]) -> Result<TopColumns, TailFault>
     requires { length types.now ≤ 2 ^ 32 }
     ensures { Gives (λ columns. columns) result (columns_of (map type_view types.now)) }

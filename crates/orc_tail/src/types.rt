@@ -50,6 +50,7 @@ impl<'a> ColumnType<'a> {
 }
 
 /// Reads one type of a footer.
+#[tactic(auto, unfolding(crate::specs::Messages::type_of))]
 pub(crate) fn read_type(alloc: Global, bytes: &[u8]) -> Result<ColumnType<'_>, TailFault>
     ensures { Gives type_view result (type_of bytes.now) }
 {
