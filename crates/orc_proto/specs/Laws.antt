@@ -1,6 +1,8 @@
 -- The laws that tie reading to spelling.
 use Rattle.std.specs.Prelude.{◌≡◌, ℕ, ◌^◌, ◌<◌, ◌≤◌, ◌⊎◌, List, [], ◌∷◌, ◌++◌, length, map, Result, Ok, Err}
+use Rattle.std.specs.List.{AllByRecursion}
 use Rattle.orc_proto.specs.declared.fault.WireFault.{WireFault}
+use Rattle.orc_proto.specs.declared.fault.WireFault.TheVariants.{Truncated, LongVarint}
 use Rattle.orc_proto.specs.Varint.{SpellsVarint, shortest}
 use Rattle.orc_proto.specs.Message.{Entry, Message, PackedNumbers, Joins, SpellsField}
 use Rattle.orc_proto.specs.Reading.{varint_at, field_at, fields_of, numbers_of}
@@ -46,6 +48,14 @@ EachPackedEndsOrBreaks = (bytes : List ℕ) → Outcome SpellsVarint varint_at b
 -- a varint is read as its number, whatever follows it
 abbrev pub VarintsAreRead : Type 0
 VarintsAreRead = (place : ℕ) (bytes rest : List ℕ) (value : ℕ) → SpellsVarint bytes value → varint_at place (bytes ++ rest) ≡ Ok (value, rest)
+
+-- bytes that all have their top bit set are a varint that is cut, while they are fewer than ten ..
+abbrev pub OpenBytesAreTruncated : Type 0
+OpenBytesAreTruncated = (place : ℕ) (bytes : List ℕ) → AllByRecursion (λ b. 128 ≤ b) bytes → length bytes < 10 → varint_at place bytes ≡ Err (Truncated place)
+
+-- .. and ten of them are a long varint, whatever follows
+abbrev pub TenOpenBytesAreLong : Type 0
+TenOpenBytesAreLong = (place : ℕ) (bytes rest : List ℕ) → AllByRecursion (λ b. 128 ≤ b) bytes → length bytes ≡ 10 → varint_at place (bytes ++ rest) ≡ Err (LongVarint place)
 
 -- the shortest varint of a number is a varint of it, and none is shorter
 abbrev pub ShortestSpells : Type 0

@@ -8,6 +8,7 @@ mod field;
 mod fields;
 pub mod laws;
 mod packed;
+mod reading;
 mod varint;
 
 pub use fault::WireFault;
@@ -15,3 +16,6 @@ pub use field::{Field, FieldValue};
 pub use fields::Fields;
 pub use packed::Packed;
 pub use varint::{varint_len, write_varint};
+
+#[cfg(test)]
+mod tests;

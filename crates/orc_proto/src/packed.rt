@@ -4,7 +4,7 @@ ghost use Rattle.std.specs.Prelude.{◌≡◌};
 ghost use Rattle.orc_proto.specs.Reading.{numbers_of, Pops};
 
 use crate::fault::WireFault;
-use crate::varint::varint_at;
+use crate::varint::read_varint;
 use std::marker::Model;
 
 /// The numbers of a packed field that are still to come.
@@ -51,7 +51,7 @@ impl<'a> Packed<'a> {
             return None;
         }
         let place = (self.total - self.rest.len()) as u64;
-        match varint_at(place, self.rest) {
+        match read_varint(place, self.rest) {
             Ok((number, rest)) => {
                 self.rest = rest;
                 Some(Ok(number))

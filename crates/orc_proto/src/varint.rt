@@ -2,7 +2,7 @@
 
 ghost use Rattle.std.specs.Prelude.{◌≡◌, ◌++◌, ◌≤◌, length, take, drop};
 ghost use Rattle.orc_proto.specs.Varint.{SpellsVarint, shortest};
-ghost use Rattle.orc_proto.specs.Reading.{Gives, varint_at as varint_of};
+ghost use Rattle.orc_proto.specs.Reading.{Gives, varint_at};
 
 use crate::fault::WireFault;
 
@@ -10,8 +10,8 @@ use crate::fault::WireFault;
 const MOST_BYTES: u32 = 10;
 
 /// The varint at the front of `bytes` and what follows it. `place` is for a fault alone.
-pub(crate) fn varint_at(place: u64, bytes: &[u8]) -> Result<(u64, &[u8]), WireFault>
-    ensures { Gives (λ x. (x.0, x.1.now)) result (varint_of place bytes.now) }
+pub(crate) fn read_varint(place: u64, bytes: &[u8]) -> Result<(u64, &[u8]), WireFault>
+    ensures { Gives (λ x. (x.0, x.1.now)) result (varint_at place bytes.now) }
 {
     let mut value: u64 = 0;
     let mut rest = bytes;

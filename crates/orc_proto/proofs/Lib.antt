@@ -1,0 +1,6 @@
+mod Groups
+mod Steps
+mod Items
+mod Varints
+mod Messages
+mod Shortest
