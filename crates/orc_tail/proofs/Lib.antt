@@ -1,1 +1,4 @@
 pub mod Few
+pub mod Places
+pub mod Children
+pub mod Ends

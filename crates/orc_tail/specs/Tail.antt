@@ -62,11 +62,14 @@ is_root count root =
 abbrev pub kind_of : List TypeMessage → ℕ → ℕ
 kind_of types number = slice_index (map (λ t. t.kind) types) number
 
+abbrev pub child : List TypeMessage → ℕ → List ℕ → TopColumn
+child types number name = record { number = number; kind = kind_of types number; name = name }
+
 -- the children of type 0, in order
 abbrev pub children : List TypeMessage → List ℕ → List (List ℕ) → List TopColumn
 children types [] names = []
 children types (number ∷ numbers) [] = []
-children types (number ∷ numbers) (name ∷ names) = record { number = number; kind = kind_of types number; name = name } ∷ children types numbers names
+children types (number ∷ numbers) (name ∷ names) = child types number name ∷ children types numbers names
 
 unfoldable pub top_columns : List TypeMessage → Result (List TopColumn) TailFault
 top_columns [] = Err BadTypes

@@ -1,10 +1,10 @@
 //! A file's footer: its stripes and its types.
 
-ghost use Rattle.std.specs.Prelude.{◌≡◌, ◌+◌, ◌≤◌, ◌<◌, ◌^◌, length, nat_le, nat_lt, Ok, Err, All, IfOk, MatchResult};
+ghost use Rattle.std.specs.Prelude.{◌≡◌, ◌+◌, ◌≤◌, ◌<◌, ◌^◌, length, nat_le, nat_lt, Ok, Err, All, IfOk, OnOk, MatchResult};
 ghost use Rattle.orc_proto.specs.Message.{entry_of};
 ghost use Rattle.orc_tail.specs.Reading.{Gives};
 ghost use Rattle.orc_tail.specs.Messages.{footer_field, footer_of};
-ghost use Rattle.orc_tail.specs.Tail.{stripe_end, stripes_within as within, tail_of_footer};
+ghost use Rattle.orc_tail.specs.Tail.{stripe_end, stripes_end_by, stripes_within as within, tail_of_footer};
 ghost use Rattle.orc_tail.specs.Views.{footer_view};
 
 use crate::fault::TailFault;
@@ -43,7 +43,7 @@ impl<'a> Footer<'a> {
 }
 
 /// Reads a footer.
-#[tactic(auto, unfolding(crate::specs::Messages::footer_of))]
+#[tactic(auto, using(crate::proofs::Few::fields_few), unfolding(crate::specs::Messages::footer_of))]
 fn read_footer(alloc: Global, bytes: &[u8]) -> Result<Footer<'_>, TailFault>
     ensures exact { Gives footer_view result (footer_of bytes.now) }
     ensures few { IfOk result (λ footer. length footer.types.items ≤ length bytes.now) }
@@ -71,15 +71,23 @@ fn ends_by(stripe: &Stripe, len: u64) -> bool
     end <= u128::from(len)
 }
 
+/// Whether all stripes end in a file of `len` bytes.
+fn all_end_by(stripes: &[Stripe], len: u64) -> bool
+    ensures { result ≡ stripes_end_by len stripes.now }
+{
+    stripes.iter().all(|stripe| ends_by(stripe, len))
+}
+
 /// Refuses too many stripes, and one that doesn't end in a file of `len` bytes.
-#[tactic(auto, unfolding(crate::specs::Tail::stripes_within))]
+#[tactic(auto, using(crate::proofs::Ends::stripes_end), unfolding(crate::specs::Tail::stripes_within))]
 fn stripes_within(len: u64, stripes: &[Stripe]) -> Result<(), TailFault>
-    ensures { MatchResult result (λ _. within len stripes.now ≡ Ok stripes.now) (λ e. within len stripes.now ≡ Err e) }
+    ensures exact { MatchResult result (λ _. within len stripes.now ≡ Ok stripes.now) (λ e. within len stripes.now ≡ Err e) }
+    ensures in_file { OnOk result (All (λ stripe. stripe_end stripe ≤ len) stripes.now) }
 {
     if stripes.len() > MOST_STRIPES {
         return Err(TailFault::TooLarge);
     }
-    if !stripes.iter().all(|stripe| ends_by(stripe, len)) {
+    if !all_end_by(stripes, len) {
         return Err(TailFault::OutOfFile);
     }
     Ok(())
