@@ -10,6 +10,7 @@ use std::marker::PhantomData;
 ///
 /// It goes by some reads where the store's log, if it is told afterwards, grew by those that answered
 /// `Ok`.
+#[derive(Drop)]
 pub struct StoreReader<'a, W: World, S: Store<W>> {
     /// The store, borrowed.
     pub store: &'a mut S,
