@@ -3,3 +3,4 @@ pub mod Messages
 pub mod Tail
 pub mod StripeFooter
 pub mod Views
+pub mod Reads

@@ -26,7 +26,10 @@ impl Message for Encoding {
     fn with(self, field: &Field) -> Encoding {
         match (field.number, field.value) {
             (1, FieldValue::Varint(kind)) => Encoding { kind, ..self },
-            (2, FieldValue::Varint(dictionary_size)) => Encoding { dictionary_size, ..self },
+            (2, FieldValue::Varint(dictionary_size)) => Encoding {
+                dictionary_size,
+                ..self
+            },
             _ => self,
         }
     }

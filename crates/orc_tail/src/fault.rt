@@ -1,7 +1,7 @@
 //! Why a file's tail or a stripe's footer is refused.
 
 ghost use Rattle.std.specs.Prelude.{◌≡◌};
-ghost use Rattle.orc_tail.specs.declared.fault.TailFault.TheVariants.{Wire, NoMemory};
+ghost use Rattle.orc_tail.specs.declared.fault.TailFault.TheVariants.{Wire, Read, NoMemory};
 
 use orc_proto::WireFault;
 use outside::Failed;
@@ -43,6 +43,14 @@ impl From<WireFault> for TailFault {
 
     fn from(fault: WireFault) -> TailFault {
         TailFault::Wire(fault)
+    }
+}
+
+impl From<Failed> for TailFault {
+    ghost from_gives = { λ failed e. e ≡ Read failed };
+
+    fn from(failed: Failed) -> TailFault {
+        TailFault::Read(failed)
     }
 }
 

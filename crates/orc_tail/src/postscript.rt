@@ -1,6 +1,6 @@
 //! The PostScript, the last message of a file, which says where the footer lies.
 
-ghost use Rattle.std.specs.Prelude.{◌≡◌, ◌+◌, ◌≤◌, length, min};
+ghost use Rattle.std.specs.Prelude.{◌≡◌, ◌+◌, ◌≤◌, length, min, IfOk};
 ghost use Rattle.orc_tail.specs.Messages.{postscript_value, postscript_of};
 ghost use Rattle.orc_tail.specs.Tail.{footer_span as span_of, span_before as span_by};
 ghost use Rattle.orc_proto.specs.Message.{entry_of};
@@ -35,8 +35,14 @@ impl Message for PostScript {
 
     fn with(self, field: &Field) -> PostScript {
         match (field.number, field.value) {
-            (1, FieldValue::Varint(footer_length)) => PostScript { footer_length, ..self },
-            (2, FieldValue::Varint(compression)) => PostScript { compression, ..self },
+            (1, FieldValue::Varint(footer_length)) => PostScript {
+                footer_length,
+                ..self
+            },
+            (2, FieldValue::Varint(compression)) => PostScript {
+                compression,
+                ..self
+            },
             (8000, FieldValue::Bytes(magic)) => PostScript {
                 is_orc: magic == b"ORC".as_slice(),
                 ..self
@@ -63,7 +69,8 @@ fn read_postscript(bytes: &[u8]) -> Result<PostScript, TailFault>
 #[tactic(auto, unfolding(crate::specs::Tail::span_before))]
 fn span_before(len: u64, postscript_len: u8, postscript: PostScript) -> Result<Span, TailFault>
     requires { postscript_len + 1 ≤ len }
-    ensures { result ≡ span_by len postscript_len postscript }
+    ensures exact { result ≡ span_by len postscript_len postscript }
+    ensures in_file { IfOk result (λ span. span.at + span.len ≤ len) }
 {
     if !postscript.is_orc {
         return Err(TailFault::NotOrc);
@@ -87,7 +94,8 @@ fn span_before(len: u64, postscript_len: u8, postscript: PostScript) -> Result<S
 #[tactic(auto, unfolding(crate::specs::Tail::footer_span))]
 pub(crate) fn footer_span(len: u64, last: &[u8]) -> Result<Span, TailFault>
     requires { length last.now ≡ min len 256 }
-    ensures { result ≡ span_of len last.now }
+    ensures exact { result ≡ span_of len last.now }
+    ensures in_file { IfOk result (λ span. span.at + span.len ≤ len) }
 {
     if len == 0 {
         return Err(TailFault::TooShort);

@@ -27,9 +27,18 @@ impl Message for Stream {
             return self;
         };
         match field.number {
-            1 => Stream { kind: number, ..self },
-            2 => Stream { column: number, ..self },
-            3 => Stream { len: number, ..self },
+            1 => Stream {
+                kind: number,
+                ..self
+            },
+            2 => Stream {
+                column: number,
+                ..self
+            },
+            3 => Stream {
+                len: number,
+                ..self
+            },
             _ => self,
         }
     }

@@ -37,10 +37,22 @@ impl Message for Stripe {
         };
         match field.number {
             1 => Stripe { at: number, ..self },
-            2 => Stripe { index_len: number, ..self },
-            3 => Stripe { body_len: number, ..self },
-            4 => Stripe { footer_len: number, ..self },
-            5 => Stripe { rows: number, ..self },
+            2 => Stripe {
+                index_len: number,
+                ..self
+            },
+            3 => Stripe {
+                body_len: number,
+                ..self
+            },
+            4 => Stripe {
+                footer_len: number,
+                ..self
+            },
+            5 => Stripe {
+                rows: number,
+                ..self
+            },
             _ => self,
         }
     }

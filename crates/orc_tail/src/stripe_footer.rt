@@ -83,7 +83,11 @@ fn read_parts(alloc: Global, bytes: &[u8]) -> Result<FooterParts, TailFault>
 ///
 /// Refuses by StreamOutOfStripe.
 #[tactic(auto, unfolding(crate::specs::StripeFooter::streams_within))]
-fn place_streams(alloc: Global, stripe: &Stripe, streams: &[Stream]) -> Result<Vec<StreamRange>, TailFault>
+fn place_streams(
+    alloc: Global,
+    stripe: &Stripe,
+    streams: &[Stream],
+) -> Result<Vec<StreamRange>, TailFault>
     requires { footer_at stripe.now < 2 ^ 64 }
     ensures ok { IfOk result (λ ranges. (ranges.items ≡ placed stripe.now.at streams.now)
         × (sum_by (λ s. s.len) streams.now ≤ stripe.now.index_len + stripe.now.body_len)) }
@@ -121,7 +125,11 @@ fn has_root_present(streams: &[StreamRange]) -> bool
 ///
 /// Refuses by Wire, StreamOutOfStripe or RootPresent, in this order.
 #[tactic(auto, unfolding(crate::specs::StripeFooter::stripe_footer_in, crate::specs::StripeFooter::streams_within))]
-pub(crate) fn stripe_footer_of_bytes(alloc: Global, stripe: &Stripe, bytes: &[u8]) -> Result<StripeFooter, TailFault>
+pub(crate) fn stripe_footer_of_bytes(
+    alloc: Global,
+    stripe: &Stripe,
+    bytes: &[u8],
+) -> Result<StripeFooter, TailFault>
     requires { footer_at stripe.now < 2 ^ 64 }
     ensures exact { Gives (λ footer. footer) result (stripe_footer_in stripe.now bytes.now) }
     ensures follow { IfOk result (λ footer. FollowEachOther stripe.now.at (footer_at stripe.now) footer.streams) }
