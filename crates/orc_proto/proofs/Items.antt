@@ -1,9 +1,9 @@
 -- Items one after the other, of any kind that is read as it is spelled.
-use Rattle.std.proofs.Common.{◌≡◌, ℕ, zero, suc, ◌+◌, ◌-◌, ◌<◌, ◌≤◌, List, [], ◌∷◌, ◌++◌, length, map, Result, Ok, Err, refl, sym, ap, subst, ◌∙◌, append_assoc, length-append, arith}
+use Rattle.std.proofs.Common.{◌≡◌, ℕ, zero, suc, ◌-◌, ◌<◌, ◌≤◌, List, [], ◌∷◌, ◌++◌, length, Result, Ok, Err, refl, sym, ap, subst, ◌∙◌, append_assoc, length-append, arith}
 use Rattle.orc_proto.specs.declared.fault.WireFault.{WireFault}
 use Rattle.orc_proto.specs.Message.{Joins}
 use Rattle.orc_proto.specs.Reading.{item_then, items_within}
-use Rattle.orc_proto.specs.Laws.{all_read, BreaksAfter, Outcome, whole, broken}
+use Rattle.orc_proto.specs.Laws.{all_read, Outcome, whole, broken}
 
 -- an item is read as it is spelled, what is read is spelled so, and a spelling has a byte
 pub record Reads {X : Type 0} (Spells : List ℕ → X → Type 0) (item_at : ℕ → List ℕ → Result (X × List ℕ) WireFault) : Type 0 where

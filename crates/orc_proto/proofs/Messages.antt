@@ -1,10 +1,9 @@
 -- A field is read as what it spells, and what is read is spelled so.
-use Rattle.std.proofs.Common.{◌≡◌, ℕ, zero, suc, ◌+◌, ◌*◌, ◌/◌, ◌%◌, ◌<◌, ◌≤◌, Bool, true, false, cond, ltb, eqb, List, [], ◌∷◌, ◌++◌, length, take, drop, Result, Ok, Err, refl, sym, ap, subst, ◌∙◌, inl, inr, append_assoc, length-append, length-take, take-append-drop, arith}
-use Rattle.std.proofs.lemmas.Bool.{ltb-false, le-ltb, lt-ltb, eqb-true}
+use Rattle.std.proofs.Common.{◌≡◌, ℕ, ◌+◌, ◌*◌, ◌/◌, ◌%◌, ◌<◌, ◌≤◌, false, cond, ltb, eqb, List, ◌++◌, length, take, drop, Ok, Err, refl, sym, ap, subst, ◌∙◌, inl, inr, append_assoc, length-append, length-take, take-append-drop, arith}
+use Rattle.std.proofs.lemmas.Bool.{ltb-false, le-ltb, eqb-true}
 use Rattle.std.proofs.lemmas.Bool.Decides.{eqb_tells}
 use Rattle.std.proofs.lemmas.List.{take_at, drop_at}
-use Rattle.orc_proto.specs.declared.fault.WireFault.{WireFault}
-use Rattle.orc_proto.specs.declared.fault.WireFault.TheVariants.{Truncated, BadKey, BadWireType}
+use Rattle.orc_proto.specs.declared.fault.WireFault.TheVariants.{Truncated, BadKey}
 use Rattle.orc_proto.specs.Varint.{SpellsVarint}
 use Rattle.orc_proto.specs.Message.{Content, VARINT, I64, LEN, I32, Entry, wire_type, SpellsContent, SpellsField, greatest_number}
 use Rattle.orc_proto.specs.Reading.{◌>>=◌, varint_at, bytes_at, number_at, content_at, field_at}

@@ -1,5 +1,5 @@
 -- Steps of reading that didn't fail.
-use Rattle.std.proofs.Common.{◌≡◌, ℕ, Bool, true, false, cond, List, Result, Ok, Err, refl, ◌⊎◌, inl, inr}
+use Rattle.std.proofs.Common.{◌≡◌, Bool, true, false, cond, Result, Ok, Err, refl, ◌⊎◌, inl, inr}
 use Rattle.orc_proto.specs.declared.fault.WireFault.{WireFault}
 use Rattle.orc_proto.specs.Reading.{◌>>=◌}
 

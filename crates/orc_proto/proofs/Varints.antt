@@ -1,11 +1,10 @@
 -- A varint is read as what it spells, and what is read is spelled so.
-use Rattle.std.proofs.Common.{◌≡◌, ℕ, zero, suc, ◌+◌, ◌*◌, ◌%◌, ◌^◌, ◌<◌, ◌≤◌, List, [], ◌∷◌, ◌++◌, length, Result, Ok, Err, refl, sym, ap, subst, ◌∙◌, inl, inr, ltb, cond, arith}
+use Rattle.std.proofs.Common.{◌≡◌, ℕ, zero, suc, ◌+◌, ◌*◌, ◌%◌, ◌^◌, ◌<◌, ◌≤◌, List, [], ◌∷◌, ◌++◌, length, Ok, Err, refl, sym, ap, ◌∙◌, inl, inr, arith}
 use Rattle.std.proofs.lemmas.Bool.{cases_lt, lt-ltb, le-ltb}
 use Rattle.std.specs.List.{AllByRecursion}
-use Rattle.orc_proto.specs.declared.fault.WireFault.{WireFault}
 use Rattle.orc_proto.specs.declared.fault.WireFault.TheVariants.{Truncated, LongVarint}
 use Rattle.orc_proto.specs.Varint.{IsClosed, groups, SpellsVarint}
-use Rattle.orc_proto.specs.Reading.{◌>>=◌, groups_at, varint_at}
+use Rattle.orc_proto.specs.Reading.{groups_at, varint_at}
 use Rattle.orc_proto.proofs.Steps.{both_read, same_read}
 use Rattle.orc_proto.proofs.Items.{Reads}
 

@@ -1,4 +1,5 @@
 use super::*;
+use std::process::Abort;
 use std::test::*;
 
 /// Bytes that are no message: how many whole fields they have in front, and the first fault.
@@ -135,81 +136,102 @@ fn hostile_messages_break_at_their_first_fault(rt: HostRuntime) {
     }
 }
 
-fn varint(number: u32, value: u64) -> Option<Result<Field<'static>, WireFault>> {
-    Some(Ok(Field {
-        number,
-        value: FieldValue::Varint(value),
-    }))
+/// Reads a message that has exactly these fields.
+fn reads(rt: &impl Abort, bytes: &[u8], expected: &[Field<'_>]) {
+    let mut fields = Fields::new(bytes);
+    for field in expected {
+        assert_eq!(rt; fields.next(), Some(Ok(*field)));
+    }
+    assert_eq!(rt; fields.next(), None);
 }
 
-fn bytes(number: u32, value: &[u8]) -> Option<Result<Field<'_>, WireFault>> {
-    Some(Ok(Field {
+fn varint(number: u32, value: u64) -> Field<'static> {
+    Field {
+        number,
+        value: FieldValue::Varint(value),
+    }
+}
+
+fn bytes(number: u32, value: &[u8]) -> Field<'_> {
+    Field {
         number,
         value: FieldValue::Bytes(value),
-    }))
+    }
 }
 
 /// The footer and the postscript of a file with one stripe and one column of longs.
 #[test]
 fn the_tail_of_a_file_is_read_field_by_field(rt: HostRuntime) {
-    let mut footer = Fields::new(&[
+    let footer = [
         0x1A, 0x0A, 0x08, 0x03, 0x10, 0x00, 0x18, 0x03, 0x20, 0x10, 0x28, 0x64, 0x22, 0x08, 0x08,
         0x0C, 0x12, 0x01, 0x01, 0x1A, 0x01, 0x78, 0x22, 0x02, 0x08, 0x04, 0x30, 0x64,
-    ]);
+    ];
     let stripe = [0x08, 0x03, 0x10, 0x00, 0x18, 0x03, 0x20, 0x10, 0x28, 0x64];
-    assert_eq!(rt; footer.next(), bytes(3, &stripe));
-    assert_eq!(rt;
-        footer.next(),
-        bytes(4, &[0x08, 0x0C, 0x12, 0x01, 0x01, 0x1A, 0x01, 0x78])
+    let root = [0x08, 0x0C, 0x12, 0x01, 0x01, 0x1A, 0x01, 0x78];
+    reads(
+        &rt,
+        &footer,
+        &[
+            bytes(3, &stripe),
+            bytes(4, &root),
+            bytes(4, &[0x08, 0x04]),
+            varint(6, 100),
+        ],
     );
-    assert_eq!(rt; footer.next(), bytes(4, &[0x08, 0x04]));
-    assert_eq!(rt; footer.next(), varint(6, 100));
-    assert_eq!(rt; footer.next(), None);
+    reads(
+        &rt,
+        &stripe,
+        &[
+            varint(1, 3),
+            varint(2, 0),
+            varint(3, 3),
+            varint(4, 16),
+            varint(5, 100),
+        ],
+    );
 
-    let mut stripe = Fields::new(&stripe);
-    for (number, value) in [(1, 3), (2, 0), (3, 3), (4, 16), (5, 100)] {
-        assert_eq!(rt; stripe.next(), varint(number, value));
-    }
-    assert_eq!(rt; stripe.next(), None);
-
-    let mut postscript = Fields::new(&[
+    let postscript = [
         0x08, 0x1C, 0x10, 0x00, 0x22, 0x02, 0x00, 0x0C, 0x28, 0x00, 0x82, 0xF4, 0x03, 0x03, 0x4F,
         0x52, 0x43,
-    ]);
-    assert_eq!(rt; postscript.next(), varint(1, 28));
-    assert_eq!(rt; postscript.next(), varint(2, 0));
-    assert_eq!(rt; postscript.next(), bytes(4, &[0x00, 0x0C]));
-    assert_eq!(rt; postscript.next(), varint(5, 0));
-    assert_eq!(rt; postscript.next(), bytes(8000, b"ORC"));
-    assert_eq!(rt; postscript.next(), None);
+    ];
+    reads(
+        &rt,
+        &postscript,
+        &[
+            varint(1, 28),
+            varint(2, 0),
+            bytes(4, &[0x00, 0x0C]),
+            varint(5, 0),
+            bytes(8000, b"ORC"),
+        ],
+    );
 }
 
 #[test]
 fn each_wire_type_and_the_greatest_number_are_read(rt: HostRuntime) {
-    // A key of ten bytes, whose low 64 bits count; then the greatest number.
-    let mut fields = Fields::new(&[
+    // Behind the eight and the four bytes a key of ten bytes, whose low 64 bits count, then the greatest number.
+    let message = [
         0x09, 1, 2, 3, 4, 5, 6, 7, 8, 0x15, 9, 8, 7, 6, 0x88, 0x80, 0x80, 0x80, 0x80, 0x80, 0x80,
         0x80, 0x80, 0x02, 0x05, 0xF8, 0xFF, 0xFF, 0xFF, 0x0F, 0x96, 0x01,
-    ]);
+    ];
     let eight = FieldValue::Eight([1, 2, 3, 4, 5, 6, 7, 8]);
-    assert_eq!(rt;
-        fields.next(),
-        Some(Ok(Field {
-            number: 1,
-            value: eight
-        }))
-    );
     let four = FieldValue::Four([9, 8, 7, 6]);
-    assert_eq!(rt;
-        fields.next(),
-        Some(Ok(Field {
-            number: 2,
-            value: four
-        }))
+    reads(
+        &rt,
+        &message,
+        &[
+            Field {
+                number: 1,
+                value: eight,
+            },
+            Field {
+                number: 2,
+                value: four,
+            },
+            varint(1, 5),
+            varint(536_870_911, 150),
+        ],
     );
-    assert_eq!(rt; fields.next(), varint(1, 5));
-    assert_eq!(rt; fields.next(), varint(536_870_911, 150));
-    assert_eq!(rt; fields.next(), None);
 }
 
 #[test]

@@ -1,12 +1,12 @@
 -- How a call that reads is shown to have followed its plan, step by step.
 use Rattle.std.specs.Prelude.{Result, Ok, Err}
-use Rattle.std.proofs.Common.{◌≡◌, ℕ, ◌≤◌, Bool, true, false, List, [], ◌∷◌, ◌++◌, Option, refl, sym, ◌∙◌, ap, subst, arith, append_assoc, append-nil}
+use Rattle.std.proofs.Common.{◌≡◌, ℕ, ◌≤◌, true, List, [], ◌∷◌, ◌++◌, Option, refl, sym, ◌∙◌, ap, subst, append_assoc, append-nil}
 use Rattle.outside.specs.declared.file_ref.FileRef.{FileRef}
 use Rattle.outside.specs.declared.file_ref.FileRange.{FileRange}
-use Rattle.outside.specs.Cause.{Cause, Rose}
+use Rattle.outside.specs.Cause.{Rose}
 use Rattle.outside.specs.Files.{Files, HasBytes, range_of}
 use Rattle.outside.specs.Reads.{ReadEntry}
-use Rattle.outside.specs.Followed.{Ending, decided, read_failed, refused, Plan, all_read, failed_read, StopsAt, Fronts, Ends, FitsEnding, Fits, EndedBy, OfFile, Followed, known, reading, joined, and_then}
+use Rattle.outside.specs.Followed.{Ending, decided, read_failed, refused, Plan, all_read, failed_read, FitsEnding, Fits, EndedBy, OfFile, Followed, known, reading, joined, and_then}
 use Rattle.outside.proofs.Cause.{Cause-none, Cause-then}
 
 all_read-append : (xs ys : List FileRange) → all_read (xs ++ ys) ≡ all_read xs ++ all_read ys

@@ -1,4 +1,4 @@
--- Calls that are to fail, by their numbers.
+-- Calls that are to fail, by their numbers. Source: this project's own.
 use Rattle.std.specs.Prelude.{ℕ, ◌+◌, ◌==◌, min, Bool, cond, List}
 use Rattle.std.specs.List.{list_any}
 use Rattle.outside.specs.Cause.{last_count}

@@ -1,4 +1,4 @@
--- The files of a run, and what a store may say of one.
+-- The files of a run, and what a store may say of one. Source: this project's own.
 use Rattle.std.specs.Prelude.{◌≡◌, ◌≢◌, ℕ, ◌+◌, ◌<◌, ◌≤◌, cond, List, [], ◌∷◌, length, Option, Some, None, option_map, IsSome, All, AllPairs, slice_get}
 use Rattle.std.specs.Str.{bytes_eq}
 use Rattle.outside.specs.declared.file_ref.FileRef.{FileRef}
@@ -8,6 +8,7 @@ use Rattle.outside.specs.declared.file_ref.FileRange.{FileRange}
 abbrev pub File : Type 0
 File = List ℕ × List ℕ
 
+-- the files of a run, in order: a file's number is its place
 abbrev pub Files : Type 0
 Files = List File
 

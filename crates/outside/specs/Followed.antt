@@ -2,8 +2,8 @@
 --
 -- The plan of a call says what the file's bytes make of it: its answer, and the reads that lead there. Where
 -- files are told the call followed it, unless a read failed or memory was refused on the way; told or not,
--- the reader went by some list of reads of the file.
-use Rattle.std.specs.Prelude.{◌≡◌, ℕ, Bool, true, false, List, [], ◌∷◌, ◌++◌, map, All, Option, Some, Result, Ok, Err}
+-- the reader went by some list of reads of the file. Source: this project's own.
+use Rattle.std.specs.Prelude.{◌≡◌, ℕ, true, false, List, [], ◌∷◌, ◌++◌, Option, Result, Ok, Err}
 use Rattle.outside.specs.declared.file_ref.FileRef.{FileRef}
 use Rattle.outside.specs.declared.file_ref.FileRange.{FileRange}
 use Rattle.outside.specs.Cause.{Cause}

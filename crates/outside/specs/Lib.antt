@@ -1,8 +1,17 @@
 pub mod Cause
 pub mod Failing
+pub mod Feed
+pub mod FeedLaws
 pub mod Files
+pub mod Filling
+pub mod Folder
 pub mod Followed
 pub mod Log
 pub mod Memory
+pub mod Pieces
+pub mod Reading
 pub mod Reads
+pub mod Runs
+pub mod SliceFeed
 pub mod Told
+pub mod Varint

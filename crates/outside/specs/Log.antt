@@ -1,5 +1,5 @@
--- A list that is told as long as there is room for it.
-use Rattle.std.specs.Prelude.{ℕ, ◌+◌, List, ◌++◌, length, Bool, true, false, cond, nat_le, Option, Some, None}
+-- A list that is told as long as there is room for it. Source: this project's own.
+use Rattle.std.specs.Prelude.{ℕ, ◌+◌, List, ◌++◌, length, cond, nat_le, Option, Some, None}
 
 -- What a log shows: its items, if it still tells them, and for how many it has room.
 pub record LogOf (A : Type 0) : Type 0 where

@@ -1,4 +1,4 @@
--- What the store, the source and the sink in memory that may fail show.
+-- What the store, the source and the sink in memory that may fail show. Source: this project's own.
 use Rattle.std.specs.Prelude.{ℕ, List, Option}
 use Rattle.outside.specs.declared.file_ref.FileRange.{FileRange}
 use Rattle.outside.specs.Failing.{FailingOf}

@@ -1,4 +1,4 @@
--- The reads that a reader went by.
+-- The reads that a reader went by. Source: this project's own.
 use Rattle.std.specs.Prelude.{◌≡◌, ℕ, Bool, true, false, cond, List, [], ◌∷◌, ◌++◌, Option, Result, is_ok, refl}
 use Rattle.std.proofs.Common.{ap, subst, sym}
 use Rattle.outside.specs.declared.file_ref.FileRef.{FileRef}

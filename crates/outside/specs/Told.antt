@@ -1,6 +1,6 @@
--- What is told, and how it changes.
+-- What is told, and how it changes. Source: this project's own.
 use Rattle.std.specs.Prelude.{◌≡◌, ℕ, ◌≤◌, List, [], ◌++◌, length, take, drop, Option, Some}
-use Rattle.std.proofs.Common.{refl, sym, ◌∙◌, ap, append_assoc, append-nil}
+use Rattle.std.proofs.Common.{sym, ◌∙◌, ap, append_assoc, append-nil}
 
 -- Where the list is told afterwards, it was told before, and has these items more at its end.
 abbrev pub Extended : {A : Type 0} → Option (List A) → Option (List A) → List A → Type 0

@@ -17,19 +17,20 @@ pub struct Log<T> {
 }
 
 impl<T> Model for Log<T> {
-    ghost use Rattle.std.specs.Prelude.{◌≤◌, ℕ, List, Option, Some, None, if◌then◌else◌, vec_capacity, vec_len};
+    ghost use Rattle.std.specs.Prelude.{◌≤◌, Some, None, if◌then◌else◌, vec_capacity, vec_len};
+    ghost use Rattle.outside.specs.Log.{LogOf};
 
-    ghost Value = { Option (List T) × ℕ };
+    ghost Value = { LogOf T };
 
-    ghost view = { λ l. (if l.told then Some l.items.items else None, l.room) };
+    ghost view = { λ l. record { items = (if l.told then Some l.items.items else None); room = l.room } };
 
     ghost invariant = { λ l. (vec_len l.items ≤ l.room) × (l.room ≤ vec_capacity l.items) };
 }
 
 impl<T: Copy> Log<T> {
-    /// An empty log with that room, for which it takes the memory.
+    /// An empty log with that room, for which it takes the memory; `NoMemory` where that is refused.
     pub fn new(alloc: Global, room: usize) -> Result<Log<T>, NoMemory>
-        ensures { IfOk result (λ log. log ≡ (Some [], room)) }
+        ensures { IfOk result (λ log. log ≡ record { items = Some []; room = room }) }
     {
         match Vec::with_capacity(alloc, room) {
             Ok(items) => Ok(Log {
@@ -43,7 +44,7 @@ impl<T: Copy> Log<T> {
 
     /// Adds items at the end, if they are told and there is room. It takes no memory.
     pub fn append(&mut self, more: &[T])
-        ensures { self.new ≡ (told_within self.old.1 self.old.0 more.now, self.old.1) }
+        ensures { self.new ≡ record self.old { items = told_within self.old.room self.old.items more.now } }
     {
         if more.len() > self.room - self.items.len() {
             self.told = false;
@@ -56,7 +57,7 @@ impl<T: Copy> Log<T> {
 
     /// The items that it tells.
     pub fn items(&self) -> Option<&[T]>
-        ensures { option_copied result ≡ self.now.0 }
+        ensures { option_copied result ≡ self.now.items }
     {
         if self.told {
             Some(self.items.as_slice())

@@ -24,11 +24,12 @@ impl Model for MemorySink {
 
     ghost Value = { SinkOf };
 
-    ghost view = { λ s. record { content = s.sink.0; room = s.sink.1; failing = s.failing } };
+    ghost view = { λ s. record { content = s.sink.items; room = s.sink.room; failing = s.failing } };
 }
 
 impl MemorySink {
-    /// An empty sink with room for so many bytes, and the numbers of the writes that are to fail.
+    /// An empty sink with room for so many bytes, and the numbers of the writes that are to fail; `NoMemory`
+    /// where memory for that room is refused.
     pub fn new(alloc: Global, failing: Vec<u64>, room: u32) -> Result<MemorySink, NoMemory>
         ensures { IfOk result (λ sink. sink ≡ record {
           content = Some [];

@@ -26,12 +26,12 @@ impl<W: World> Model for MemoryStore<W> {
 
     ghost Value = { StoreOf };
 
-    ghost view = { λ s. record { reads = s.store.0; room = s.store.1; failing = s.failing } };
+    ghost view = { λ s. record { reads = s.store.items; room = s.store.room; failing = s.failing } };
 }
 
 impl<W: World> MemoryStore<W> {
     /// A store of the world's files, with the numbers of the calls that are to fail, and room for the log
-    /// of so many reads.
+    /// of so many reads; `NoMemory` where memory for that room is refused.
     pub fn new(
         alloc: Global,
         files: Vec<(Name, Bytes)>,

@@ -4,7 +4,7 @@ use std::marker::Model;
 
 /// The name of a file, a fragment or a column.
 ///
-/// Contracts see it as the list of its bytes, which are UTF-8.
+/// Contracts see it as the list of its bytes.
 #[derive(Debug, Drop)]
 pub struct Name {
     text: String,

@@ -14,7 +14,9 @@ pub trait RangeReader<W: World> {
     /// in their order.
     ghost went: { Self → List ReadEntry → Self → Type 0 };
 
-    /// Reads a range of a file, from `at` on, to fill `into`.
+    /// Reads a range of a file, from `at` on, in bytes from the file's first, to fill `into`.
+    ///
+    /// A file's number is below 4,096, and its length at most 4,294,967,295 bytes.
     ///
     /// After `Failed`, which comes only where the count of faults rose, what `into` holds isn't promised.
     fn read(&mut self, file: FileRef, at: u64, into: &mut [u8]) -> Result<(), Failed>

@@ -1,4 +1,4 @@
-ghost use Rattle.std.specs.Prelude.{◌≡◌, ◌≤◌, ◌<◌, ◌++◌, ℕ, List, [], length, take, Option, Some, IfOk, OnErr};
+ghost use Rattle.std.specs.Prelude.{◌≡◌, ◌≤◌, ◌<◌, ℕ, List, [], length, Option, Some, IfOk};
 ghost use Rattle.outside.specs.Cause.{HasCause};
 ghost use Rattle.outside.specs.Told.{TakenFrom};
 
@@ -15,13 +15,12 @@ pub trait Source {
     /// Places bytes at the front of `into`, and answers how many: 0 for an `into` that isn't empty only at
     /// the end.
     ///
-    /// After `Failed`, which comes only where the count of faults rose, what is left is as before.
+    /// After `Failed`, which comes only where the count of faults rose, what is left isn't promised.
     fn read(&mut self, into: &mut [u8]) -> Result<usize, Failed>
         ensures fits { IfOk result (λ n. n ≤ length into.new) }
         ensures bytes { IfOk result (λ n. (bytes : List ℕ) → left self.old ≡ Some bytes
             → TakenFrom bytes n into.new (left self.new)) }
         ensures end { IfOk result (λ n. n ≡ 0 → 0 < length into.new → (bytes : List ℕ) → left self.old ≡ Some bytes
             → bytes ≡ []) }
-        ensures refused { OnErr result (left self.new ≡ left self.old) }
         ensures cause { HasCause (fault_count self.old) (fault_count self.new) result };
 }

@@ -1,5 +1,8 @@
-ghost use Rattle.std.specs.Prelude.{◌≡◌, None};
+ghost use Rattle.std.specs.Prelude.{◌≡◌, ◌≤◌, ◌<◌, ℕ, List, [], length, None, Some, IfOk, is_ok, if◌then◌else◌};
 ghost use Rattle.std.specs.Io.{ReadsAtMost};
+ghost use Rattle.outside.specs.Cause.{HasCause};
+ghost use Rattle.outside.specs.Failing.{counted};
+ghost use Rattle.outside.specs.Told.{TakenFrom};
 
 use crate::{Failed, Source};
 use std::io::{self, ErrorKind, Read};
@@ -36,7 +39,13 @@ impl<R: Read + Drop> Source for StdinSource<R> {
 
     ghost fault_count = { λ s. s };
 
-    fn read(&mut self, into: &mut [u8]) -> Result<usize, Failed> {
+    fn read(&mut self, into: &mut [u8]) -> Result<usize, Failed>
+        ensures fits { IfOk result (λ n. n ≤ length into.new) }
+        ensures bytes { IfOk result (λ n. (bytes : List ℕ) → None ≡ Some bytes → TakenFrom bytes n into.new None) }
+        ensures end { IfOk result (λ n. n ≡ 0 → 0 < length into.new → (bytes : List ℕ) → None ≡ Some bytes → bytes ≡ []) }
+        ensures cause { HasCause self.old self.new result }
+        ensures count { self.new ≡ (if is_ok result then self.old else counted self.old) }
+    {
         match read_again(&mut self.input, into) {
             Ok(n) => Ok(n),
             Err(_) => {

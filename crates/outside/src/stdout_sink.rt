@@ -1,4 +1,7 @@
-ghost use Rattle.std.specs.Prelude.{◌≡◌, None};
+ghost use Rattle.std.specs.Prelude.{◌≡◌, ◌≤◌, ℕ, length, take, None, OnOk, OnErr, is_ok, if◌then◌else◌};
+ghost use Rattle.outside.specs.Cause.{HasCause};
+ghost use Rattle.outside.specs.Failing.{counted};
+ghost use Rattle.outside.specs.Told.{Extended};
 
 use crate::{Failed, Sink};
 use std::io::Write;
@@ -35,7 +38,12 @@ impl<P: Write + Drop> Sink for StdoutSink<P> {
 
     ghost fault_count = { λ s. s };
 
-    fn write(&mut self, bytes: &[u8]) -> Result<(), Failed> {
+    fn write(&mut self, bytes: &[u8]) -> Result<(), Failed>
+        ensures written { OnOk result (Extended None None bytes.now) }
+        ensures front { OnErr result ((n : ℕ) × (n ≤ length bytes.now) × Extended None None (take n bytes.now)) }
+        ensures cause { HasCause self.old self.new result }
+        ensures count { self.new ≡ (if is_ok result then self.old else counted self.old) }
+    {
         if self.output.write_all(bytes).is_ok() && self.output.flush().is_ok() {
             return Ok(());
         }

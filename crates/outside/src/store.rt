@@ -18,16 +18,18 @@ pub trait Store<W: World> {
 
     /// Looks up a file by its name.
     ///
-    /// Answers None where there is no such file. `Failed` comes only where the count of faults rose.
+    /// Answers None where there is no such file. `Failed` comes only where the count of faults rose. The log of
+    /// reads stays as it is.
     fn find(&mut self, name: &str) -> Result<Option<FileRef>, Failed>
         ensures found { IfOk result (λ found. (told : Files) → W.files ≡ Some told → found ≡ file_named name.now told) }
         ensures number { IfOk result (λ found. IfSome found (λ file. file.number < 4096)) }
         ensures reads { reads self.new ≡ reads self.old }
         ensures cause { HasCause (fault_count self.old) (fault_count self.new) result };
 
-    /// Reads a range of a file, from `at` on, to fill `into`.
+    /// Reads a range of a file, from `at` on, in bytes from the file's first, to fill `into`.
     ///
-    /// After `Failed`, which comes only where the count of faults rose, what `into` holds isn't promised.
+    /// After `Failed`, which comes only where the count of faults rose, what `into` holds isn't promised, and
+    /// the log of reads is as before.
     fn read_at(&mut self, file: FileRef, at: u64, into: &mut [u8]) -> Result<(), Failed>
         requires in_range { at + length into.old ≤ file.len }
         requires is_file { IsFile W.files file }

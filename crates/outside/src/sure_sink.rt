@@ -18,17 +18,18 @@ pub struct SureSink {
 }
 
 impl Model for SureSink {
-    ghost use Rattle.std.specs.Prelude.{ℕ, List, Option};
+    ghost use Rattle.std.specs.Prelude.{ℕ};
+    ghost use Rattle.outside.specs.Log.{LogOf};
 
-    ghost Value = { Option (List ℕ) × ℕ };
+    ghost Value = { LogOf ℕ };
 
     ghost view = { λ s. s.log };
 }
 
 impl SureSink {
-    /// An empty sink with room for so many bytes.
+    /// An empty sink with room for so many bytes; `NoMemory` where memory for that room is refused.
     pub fn new(alloc: Global, room: u32) -> Result<SureSink, NoMemory>
-        ensures { IfOk result (λ sink. sink ≡ (Some [], room)) }
+        ensures { IfOk result (λ sink. sink ≡ record { items = Some []; room = room }) }
     {
         Ok(SureSink {
             log: Log::new(alloc, room as usize)?,
@@ -37,23 +38,23 @@ impl SureSink {
 
     /// The content that it tells.
     pub fn written(&self) -> Option<&[u8]>
-        ensures { option_copied result ≡ self.now.0 }
+        ensures { option_copied result ≡ self.now.items }
     {
         self.log.items()
     }
 }
 
 impl Sink for SureSink {
-    ghost content = { λ s. s.0 };
+    ghost content = { λ s. s.items };
 
     ghost fault_count = { λ _. 0 };
 
     fn write(&mut self, bytes: &[u8]) -> Result<(), Failed>
-        ensures written { OnOk result (Extended self.old.0 self.new.0 bytes.now) }
-        ensures front { OnErr result ((n : ℕ) × (n ≤ length bytes.now) × Extended self.old.0 self.new.0 (take n bytes.now)) }
+        ensures written { OnOk result (Extended self.old.items self.new.items bytes.now) }
+        ensures front { OnErr result ((n : ℕ) × (n ≤ length bytes.now) × Extended self.old.items self.new.items (take n bytes.now)) }
         ensures cause { HasCause 0 0 result }
         ensures sure { IsOk result }
-        ensures after { self.new ≡ (told_within self.old.1 self.old.0 bytes.now, self.old.1) }
+        ensures after { self.new ≡ record self.old { items = told_within self.old.room self.old.items bytes.now } }
     {
         self.log.append(bytes);
         Ok(())

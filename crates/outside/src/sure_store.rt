@@ -21,10 +21,11 @@ pub struct SureStore<W: World> {
 }
 
 impl<W: World> Model for SureStore<W> {
-    ghost use Rattle.std.specs.Prelude.{◌≡◌, ℕ, List, Option, Some};
+    ghost use Rattle.std.specs.Prelude.{◌≡◌, Some};
     ghost use Rattle.outside.specs.declared.file_ref.FileRange.{FileRange};
+    ghost use Rattle.outside.specs.Log.{LogOf};
 
-    ghost Value = { Option (List FileRange) × ℕ };
+    ghost Value = { LogOf FileRange };
 
     ghost view = { λ s. s.log };
 
@@ -32,14 +33,15 @@ impl<W: World> Model for SureStore<W> {
 }
 
 impl<W: World> SureStore<W> {
-    /// A store of the world's files, with room for the log of so many reads.
+    /// A store of the world's files, with room for the log of so many reads; `NoMemory` where memory for that
+    /// room is refused.
     pub fn new(
         alloc: Global,
         files: Vec<(Name, Bytes)>,
         room: u32,
     ) -> Result<SureStore<W>, NoMemory>
         requires { W.files ≡ Some files.items }
-        ensures { IfOk result (λ store. store ≡ (Some [], room)) }
+        ensures { IfOk result (λ store. store ≡ record { items = Some []; room = room }) }
     {
         let log = Log::new(alloc, room as usize)?;
         Ok(SureStore {
@@ -51,7 +53,7 @@ impl<W: World> SureStore<W> {
 
     /// The reads that it tells.
     pub fn logged(&self) -> Option<&[FileRange]>
-        ensures { option_copied result ≡ self.now.0 }
+        ensures { option_copied result ≡ self.now.items }
     {
         self.log.items()
     }
@@ -78,14 +80,14 @@ fn look_up(files: &[(Name, Bytes)], name: &str) -> Option<FileRef>
 }
 
 impl<W: World> Store<W> for SureStore<W> {
-    ghost reads = { λ s. s.0 };
+    ghost reads = { λ s. s.items };
 
     ghost fault_count = { λ _. 0 };
 
     fn find(&mut self, name: &str) -> Result<Option<FileRef>, Failed>
         ensures found { IfOk result (λ found. (told : Files) → W.files ≡ Some told → found ≡ file_named name.now told) }
         ensures number { IfOk result (λ found. IfSome found (λ file. file.number < 4096)) }
-        ensures reads { self.new.0 ≡ self.old.0 }
+        ensures reads { self.new.items ≡ self.old.items }
         ensures cause { HasCause 0 0 result }
         ensures sure { IsOk result }
         ensures same { self.new ≡ self.old }
@@ -98,11 +100,14 @@ impl<W: World> Store<W> for SureStore<W> {
         requires is_file { IsFile W.files file }
         ensures bytes { OnOk result ((bytes : List ℕ) → HasBytes W.files file bytes
             → into.new ≡ slice_range bytes at (at + length into.new)) }
-        ensures reads { OnOk result (Extended self.old.0 self.new.0 (range_of file at (length into.new) ∷ [])) }
-        ensures refused { OnErr result (self.new.0 ≡ self.old.0) }
+        ensures reads { OnOk result (Extended self.old.items self.new.items (range_of file at (length into.new) ∷ [])) }
+        ensures refused { OnErr result (self.new.items ≡ self.old.items) }
         ensures cause { HasCause 0 0 result }
         ensures sure { IsOk result }
-        ensures after { self.new ≡ (told_within self.old.1 self.old.0 (range_of file at (length into.new) ∷ []), self.old.1) }
+        ensures after { self.new ≡ record self.old {
+          items =
+              told_within self.old.room self.old.items (range_of file at (length into.new) ∷ []);
+        } }
     {
         let (_, bytes) = &self.files[file.number as usize];
         let start = at as usize;

@@ -3,8 +3,8 @@ ghost use Rattle.outside.specs.Files.{Files, AreFiles};
 
 /// The files of one run.
 ///
-/// It is a type without values: contracts read its files, where it tells them, and programs pass the
-/// type along. Whether files are told is a fact of the world, the same for all stores over it.
+/// No value of it is needed: contracts read its files, where it tells them, and programs pass the type
+/// along. Whether files are told is a fact of the world, the same for all stores over it.
 pub trait World {
     /// The files, in their order, or none where the world doesn't tell them.
     ghost files: { Option Files };

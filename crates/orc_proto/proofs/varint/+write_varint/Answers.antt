@@ -1,4 +1,4 @@
-use Rattle.std.proofs.Common.{sym, ◌≡◌, ◌∷◌, ◌++◌, List, ℕ, ◌+◌, ◌%◌, ◌/◌, length, drop, arith}
+use Rattle.std.proofs.Common.{sym, ◌≡◌, ◌+◌, length, arith}
 use Rattle.orc_proto.specs.Varint.{shortest}
 use Rattle.orc_proto.proofs.Shortest.{length-small, length-large, length-some, written_small, written_large, spelled_front}
 use Rattle.orc_proto.proofs.varint.+write_varint.Goals as goal

@@ -1,4 +1,4 @@
-use Rattle.std.proofs.Common.{subst, ◌∷◌, List, ℕ, arith}
+use Rattle.std.proofs.Common.{subst, List, ℕ}
 use Rattle.orc_proto.proofs.Groups.{IsSoFar, begins, runs_out, is_long, ends, goes_on}
 use Rattle.orc_proto.proofs.varint.read_varint.Goals as goal
 
