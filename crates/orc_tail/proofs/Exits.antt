@@ -67,5 +67,5 @@ pub range_read : {S : Type 0} (went : S → List ReadEntry → S → Type 0) (co
     → Followed went count told file ending (range_plan file at len) before after (Ok into)
 range_read went count told file at len before after into nowhere then later bytes_are =
     Followed-read went count told file ending at len (λ bytes. known (Ok (slice_range bytes at (at + len)))) before after after (Ok into) then later
-        (Followed-same (λ _. known (Ok into)) (λ bytes. known (Ok (slice_range bytes at (at + len)))) (λ bytes has. ap (λ (xs : List ℕ). known (Ok xs)) (bytes_are bytes has))
-            (Followed-known went count told file ending after (Ok into) nowhere (λ none. none)))
+    (Followed-same (λ _. known (Ok into)) (λ bytes. known (Ok (slice_range bytes at (at + len)))) (λ bytes has. ap (λ (xs : List ℕ). known (Ok xs)) (bytes_are bytes has))
+    (Followed-known went count told file ending after (Ok into) nowhere (λ none. none)))

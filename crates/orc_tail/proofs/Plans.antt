@@ -26,7 +26,7 @@ span_by : (len : ℕ) (a b : List ℕ) → last_byte a ≡ last_byte b → (last
 unfolding footer_span
 span_by len a b same_byte same_postscript =
     cond_same _ (Err TooShort) (or_not_orc (postscript_of (postscript_bytes a)) >>= span_before len (last_byte a)) (or_not_orc (postscript_of (postscript_bytes b)) >>= span_before len (last_byte a))
-        (λ t. ap (λ (xs : List ℕ). or_not_orc (postscript_of xs) >>= span_before len (last_byte a)) (same_postscript (ltb-false _ _ (or_parts (eqb len 0) (ltb len (last_byte a + 1)) t).1)))
+    (λ t. ap (λ (xs : List ℕ). or_not_orc (postscript_of xs) >>= span_before len (last_byte a)) (same_postscript (ltb-false _ _ (or_parts (eqb len 0) (ltb len (last_byte a + 1)) t).1)))
     ∙ ap (λ (p : ℕ). cond (eqb len 0 || ltb len (p + 1)) (Err TooShort) (or_not_orc (postscript_of (postscript_bytes b)) >>= span_before len p)) same_byte
 
 abbrev window : ℕ → List ℕ → List ℕ
@@ -48,7 +48,7 @@ window_span len bytes e some fits =
     let same_byte : last_byte (drop (end_at len) bytes) ≡ p = get_end bytes (end_at len) _ _ (omega arith) in
     ap (λ (xs : List ℕ). footer_span len xs) w
     ∙ span_by len (drop (end_at len) bytes) bytes same_byte (λ room.
-      rw (same_byte, counted, drop-drop) (ap (λ (k : ℕ). take k (drop (end_at len + (end_len len - 1 - p)) bytes)) (omega arith) ∙ ap (λ (k : ℕ). take (length bytes - 1 - (length bytes - 1 - p)) (drop k bytes)) (omega arith)))
+    rw (same_byte, counted, drop-drop) (ap (λ (k : ℕ). take k (drop (end_at len + (end_len len - 1 - p)) bytes)) (omega arith) ∙ ap (λ (k : ℕ). take (length bytes - 1 - (length bytes - 1 - p)) (drop k bytes)) (omega arith)))
 
 at_place : {X : Type 0} (P : X → Type 0) (xs : List X) (n : ℕ) (x : X) → All P xs → slice_get xs n ≡ Some x → P x
 at_place P [] n x all e = absurd cc

@@ -45,8 +45,8 @@ pub span_then : {S : Type 0} (went : S → List ReadEntry → S → Type 0) (cou
     → Followed went count told file ending (span_plan file) before after answer
 span_then went count told file before after last answer on nowhere followed same =
     subst (λ (r : Result Span TailFault). Followed went count told file ending (span_plan file) before after r) (sym same)
-        (Followed-then (range_plan file (end_at file.len) (end_len file.len)) (λ bytes read. known (footer_span file.len read)) last (footer_span file.len last) on followed
-            (exact_exit went count told file after (footer_span file.len last) nowhere (decided_span file.len last)))
+    (Followed-then (range_plan file (end_at file.len) (end_len file.len)) (λ bytes read. known (footer_span file.len read)) last (footer_span file.len last) on followed
+    (exact_exit went count told file after (footer_span file.len last) nowhere (decided_span file.len last)))
 
 -- the footer
 pub footer_stopped : {S : Type 0} (went : S → List ReadEntry → S → Type 0) (count : S → ℕ) (told : Option Files) (file : FileRef) (span : Span) (before after : S) (e : TailFault)
@@ -67,7 +67,7 @@ pub stripe_stopped : {S : Type 0} (went : S → List ReadEntry → S → Type 0)
     → Followed went count told file ending (stripe_footer_plan file stripe) before after (Err e)
 stripe_stopped went count told file stripe before after e followed =
     Followed-same (λ bytes. and_then (range_plan file (footer_at stripe) stripe.footer_len bytes) (λ range. known (stripe_footer_in stripe range))) (stripe_footer_plan file stripe) (λ bytes has. stripe_plan file stripe bytes)
-        (stopped went count told file (footer_at stripe) stripe.footer_len (stripe_footer_in stripe) before after e followed)
+    (stopped went count told file (footer_at stripe) stripe.footer_len (stripe_footer_in stripe) before after e followed)
 
 pub stripe_then : {S : Type 0} (went : S → List ReadEntry → S → Type 0) (count : S → ℕ) (told : Option Files) (file : FileRef) (stripe : Stripe) (before after : S) (footer : List ℕ) (answer : Result StripeFooter TailFault)
     → ((front back : List ReadEntry) → went before front after → went after back after → went before (front ++ back) after) → went after [] after
@@ -75,7 +75,7 @@ pub stripe_then : {S : Type 0} (went : S → List ReadEntry → S → Type 0) (c
     → Followed went count told file ending (stripe_footer_plan file stripe) before after answer
 stripe_then went count told file stripe before after footer answer on nowhere followed given =
     Followed-same (λ bytes. and_then (range_plan file (footer_at stripe) stripe.footer_len bytes) (λ range. known (stripe_footer_in stripe range))) (stripe_footer_plan file stripe) (λ bytes has. stripe_plan file stripe bytes)
-        (decided_by went count told file (footer_at stripe) stripe.footer_len (stripe_footer_in stripe) before after footer answer on nowhere followed (decided_footer_in stripe footer) given)
+    (decided_by went count told file (footer_at stripe) stripe.footer_len (stripe_footer_in stripe) before after footer answer on nowhere followed (decided_footer_in stripe footer) given)
 
 -- the whole tail
 pub tail_long : {S : Type 0} (went : S → List ReadEntry → S → Type 0) (count : S → ℕ) (told : Option Files) (file : FileRef) (s : S) → went s [] s → greatest_len < file.len

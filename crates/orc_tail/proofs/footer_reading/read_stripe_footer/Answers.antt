@@ -10,4 +10,4 @@ returns-in_err-footer-clause-followed g c =
 pub returns-clause-followed : goal.returns-clause-followed
 returns-clause-followed g c =
     stripe_then g.B.RangeReader.went g.B.RangeReader.fault_count g.W.World.files c.args.file c.args.stripe.now c.args.reader.now c.read_range.new.reader c.in_ok-footer.footer c.stripe_footer_of_bytes.result
-        (g.met.B.RangeReader.went_on c.args.reader.now c.read_range.new.reader c.read_range.new.reader) (g.met.B.RangeReader.went_nowhere c.read_range.new.reader) c.in_ok-footer.ensures.followed (rw c.as_slice.ensures at c.stripe_footer_of_bytes.ensures.exact)
+    (g.met.B.RangeReader.went_on c.args.reader.now c.read_range.new.reader c.read_range.new.reader) (g.met.B.RangeReader.went_nowhere c.read_range.new.reader) c.in_ok-footer.ensures.followed (rw c.as_slice.ensures at c.stripe_footer_of_bytes.ensures.exact)

@@ -32,5 +32,5 @@ returns-clause-followed g c =
     let entry : ℕ → ReadEntry = λ n. record { range = range_of c.args.file c.args.at n; ok = true } in
     let by = subst (λ (n : ℕ). g.B.RangeReader.went before (entry n ∷ []) after) len_is read.went in
     rw filled (range_read g.B.RangeReader.went g.B.RangeReader.fault_count g.W.World.files c.args.file c.args.at c.args.len before after into
-        (g.met.B.RangeReader.went_nowhere after) (λ rest q. g.met.B.RangeReader.went_next before after after (entry c.args.len) rest by q) read.cause.later
-        (λ bytes has. read.bytes bytes has ∙ ap (λ (n : ℕ). slice_range bytes c.args.at (c.args.at + n)) len_is))
+    (g.met.B.RangeReader.went_nowhere after) (λ rest q. g.met.B.RangeReader.went_next before after after (entry c.args.len) rest by q) read.cause.later
+    (λ bytes has. read.bytes bytes has ∙ ap (λ (n : ℕ). slice_range bytes c.args.at (c.args.at + n)) len_is))

@@ -19,4 +19,4 @@ returns-in_err-span-clause-followed g c =
 pub returns-clause-followed : goal.returns-clause-followed
 returns-clause-followed g c =
     tail_then g.B.RangeReader.went g.B.RangeReader.fault_count g.W.World.files g.W.World.are_files c.args.file c.args.reader.now c.read_span.new.reader c.read_footer.new.reader c.in_ok-span.span c.read_footer.result (omega arith) (omega arith)
-        (g.met.B.RangeReader.went_on c.args.reader.now c.read_span.new.reader c.read_footer.new.reader) c.in_ok-span.ensures.followed c.read_footer.ensures.followed
+    (g.met.B.RangeReader.went_on c.args.reader.now c.read_span.new.reader c.read_footer.new.reader) c.in_ok-span.ensures.followed c.read_footer.ensures.followed
