@@ -1,5 +1,5 @@
 -- The children of type 0, one after the other.
-use Rattle.std.proofs.Common.{◌≡◌, ℕ, suc, ◌+◌, ◌<◌, Bool, true, List, ◌∷◌, ◌++◌, [], length, get_or, drop, map, refl, sym, ◌∙◌, ap, append_assoc, arith, add-one, drop-cons}
+use Rattle.std.proofs.Common.{◌≡◌, ℕ, ◌+◌, ◌<◌, true, List, ◌∷◌, ◌++◌, [], length, get_or, drop, map, refl, sym, ◌∙◌, ap, append_assoc, arith, add-one, drop-cons}
 use Rattle.std.proofs.lemmas.Bool.Decides.{nat_tests}
 use Rattle.std.proofs.lemmas.List.{get_or-map, length-map}
 use Rattle.std.proofs.lemmas.List.Sums.{AllPass-from_list_all}
@@ -7,7 +7,7 @@ use Rattle.std.specs.List.{list_all}
 use Rattle.orc_tail.specs.declared.types.ColumnType.{ColumnType}
 use Rattle.orc_tail.specs.declared.columns.TopColumn.{TopColumn}
 use Rattle.orc_tail.specs.Messages.{TypeMessage}
-use Rattle.orc_tail.specs.Tail.{is_child, is_root, kind_of, child, children}
+use Rattle.orc_tail.specs.Tail.{is_child, kind_of, child, children}
 use Rattle.orc_tail.specs.Views.{type_view}
 
 -- one child more

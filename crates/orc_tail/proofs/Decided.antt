@@ -2,7 +2,7 @@
 use Rattle.std.proofs.Common.{◌≡◌, ℕ, Bool, true, false, cond, List, [], ◌∷◌, ◌++◌, Result, Ok, Err, refl, subst}
 use Rattle.orc_proto.specs.declared.fault.WireFault.{WireFault}
 use Rattle.orc_proto.specs.Message.{Content, VARINT, I64, LEN, I32, Entry}
-use Rattle.orc_proto.specs.Reading.{fields_of, numbers_of}
+use Rattle.orc_proto.specs.Reading.{fields_of}
 use Rattle.outside.specs.Followed.{decided}
 use Rattle.orc_tail.specs.declared.fault.TailFault.{TailFault}
 use Rattle.orc_tail.specs.declared.fault.TailFault.TheVariants.{Wire, NotOrc, BadTypes}
@@ -11,8 +11,8 @@ use Rattle.orc_tail.specs.declared.postscript.PostScript.{PostScript}
 use Rattle.orc_tail.specs.declared.stripe.Stripe.{Stripe}
 use Rattle.orc_tail.specs.declared.stream.Stream.{Stream}
 use Rattle.orc_tail.specs.Reading.{◌>>=◌, fields_from, numbers_from, behind}
-use Rattle.orc_tail.specs.Messages.{postscript_of, stripe_of, TypeMessage, type_value, type_field, type_of, FooterMessage, footer_value, footer_field, footer_of, stream_of, encoding_of, StripeFooterMessage, stripe_footer_value, stripe_footer_field, stripe_footer_of, stripe_value, stripe_field, stream_value, stream_field, encoding_value, encoding_field}
-use Rattle.orc_tail.specs.Tail.{or_not_orc, span_before, footer_span, last_byte, postscript_bytes, top_columns, stripes_within, tail_of_footer}
+use Rattle.orc_tail.specs.Messages.{stripe_of, TypeMessage, type_value, type_field, type_of, FooterMessage, footer_value, footer_field, footer_of, stream_of, encoding_of, StripeFooterMessage, stripe_footer_value, stripe_footer_field, stripe_footer_of, stripe_value, stripe_field, stream_value, stream_field, encoding_value, encoding_field}
+use Rattle.orc_tail.specs.Tail.{or_not_orc, span_before, footer_span, top_columns, stripes_within, tail_of_footer}
 use Rattle.orc_tail.specs.StripeFooter.{streams_within, stripe_footer_in}
 use Rattle.orc_tail.specs.Reads.{ending}
 

@@ -1,12 +1,12 @@
 -- The exits of a call that reads: after a range, and at what its bytes decide.
-use Rattle.std.proofs.Common.{◌≡◌, ℕ, ◌+◌, ◌≤◌, true, false, List, [], ◌∷◌, Option, Result, Ok, Err, refl, sym, ◌∙◌, ap, subst, inl, inr, ◌⊎◌}
+use Rattle.std.proofs.Common.{◌≡◌, ℕ, ◌+◌, ◌≤◌, true, List, [], ◌∷◌, Option, Result, Ok, Err, refl, sym, ◌∙◌, ap, subst, inl, inr, ◌⊎◌}
 use Rattle.std.specs.Prelude.{slice_range}
 use Rattle.outside.specs.declared.failed.Failed.{Failed}
 use Rattle.outside.specs.declared.file_ref.FileRef.{FileRef}
-use Rattle.outside.specs.Cause.{Cause, Rose}
+use Rattle.outside.specs.Cause.{Rose}
 use Rattle.outside.specs.Files.{Files, HasBytes, range_of}
 use Rattle.outside.specs.Reads.{ReadEntry}
-use Rattle.outside.specs.Followed.{Ending, decided, read_failed, refused, Plan, EndedBy, failed_read, Followed, known}
+use Rattle.outside.specs.Followed.{decided, read_failed, refused, failed_read, Followed, known}
 use Rattle.outside.proofs.Following.{Followed-known, Followed-refused, Followed-same, Followed-read, Followed-read_failed}
 use Rattle.orc_tail.specs.declared.fault.TailFault.{TailFault}
 use Rattle.orc_tail.specs.declared.fault.TailFault.TheVariants as fault

@@ -1,12 +1,12 @@
 -- A file's last bytes say where its footer lies as the whole file does, and so the reads follow the plan.
-use Rattle.std.proofs.Common.{◌≡◌, ℕ, zero, suc, ◌+◌, ◌-◌, ◌<◌, ◌≤◌, min, Bool, true, false, cond, eqb, ltb, ◌||◌, List, [], ◌∷◌, length, get_or, take, drop, Option, Some, None, Result, Ok, Err, refl, sym, ◌∙◌, ap, subst, arith}
+use Rattle.std.proofs.Common.{◌≡◌, ℕ, zero, suc, ◌+◌, ◌-◌, ◌<◌, ◌≤◌, Bool, true, false, cond, eqb, ltb, ◌||◌, List, [], ◌∷◌, length, get_or, take, drop, Option, Some, None, Result, Ok, Err, refl, ◌∙◌, ap, subst, arith}
 use Rattle.std.specs.Prelude.{All, slice_get, slice_range, option_map}
 use Rattle.std.proofs.lemmas.Bool.Decides.{nat_tests}
-use Rattle.std.proofs.lemmas.Bool.{or_parts, or_from, ltb-false, le-ltb, ltb-true, lt-ltb}
+use Rattle.std.proofs.lemmas.Bool.{or_parts, ltb-false, le-ltb, lt-ltb}
 use Rattle.std.proofs.lemmas.List.{take_all, get_or-drop, drop-drop, length-drop}
 use Rattle.outside.specs.declared.file_ref.FileRef.{FileRef}
-use Rattle.outside.specs.Files.{File, Files, AreFiles, HasBytes, bytes_of, range_of}
-use Rattle.outside.specs.Followed.{Plan, known, joined, and_then}
+use Rattle.outside.specs.Files.{File, Files, AreFiles, HasBytes, range_of}
+use Rattle.outside.specs.Followed.{known, joined, and_then}
 use Rattle.orc_tail.specs.declared.fault.TailFault.{TailFault}
 use Rattle.orc_tail.specs.declared.fault.TailFault.TheVariants.{TooLarge, TooShort}
 use Rattle.orc_tail.specs.declared.postscript.Span.{Span}

@@ -1,9 +1,9 @@
 -- The reading calls, step by step: a range, what its bytes decide, and the plan of the whole.
-use Rattle.std.proofs.Common.{◌≡◌, ℕ, ◌<◌, ◌≤◌, List, [], ◌++◌, length, Option, Some, Result, Ok, Err, refl, sym, subst}
+use Rattle.std.proofs.Common.{◌≡◌, ℕ, ◌<◌, ◌≤◌, List, [], ◌++◌, Option, Some, Result, Ok, Err, refl, sym, subst}
 use Rattle.outside.specs.declared.file_ref.FileRef.{FileRef}
-use Rattle.outside.specs.Files.{Files, AreFiles, HasBytes}
+use Rattle.outside.specs.Files.{Files, AreFiles}
 use Rattle.outside.specs.Reads.{ReadEntry}
-use Rattle.outside.specs.Followed.{Followed, Plan, known, and_then}
+use Rattle.outside.specs.Followed.{Followed, known, and_then}
 use Rattle.outside.proofs.Following.{Followed-stopped, Followed-then, Followed-same}
 use Rattle.orc_tail.specs.declared.fault.TailFault.{TailFault}
 use Rattle.orc_tail.specs.declared.fault.TailFault.TheVariants.{TooLarge, TooShort}

@@ -2,7 +2,7 @@
 -- skipped, as an unknown one is. The last value of a field that isn't repeated counts, and an absent number is 0.
 -- Numbers aren't cut to 32 bits. Source: Apache ORC specification v1, "File Tail" and "Stripes", with this
 -- project's reading of the wire format.
-use Rattle.std.specs.Prelude.{ℕ, Bool, false, List, [], ◌∷◌, ◌++◌, Result, Ok, Err, ◌==◌, if◌then◌else◌, bytes_eq}
+use Rattle.std.specs.Prelude.{ℕ, false, List, [], ◌∷◌, ◌++◌, Result, Ok, ◌==◌, if◌then◌else◌, bytes_eq}
 use Rattle.orc_proto.specs.Message.{Content, VARINT, I64, LEN, I32, Entry}
 use Rattle.orc_proto.specs.Reading.{fields_of, numbers_of}
 use Rattle.orc_tail.specs.declared.fault.TailFault.{TailFault}

@@ -9,7 +9,7 @@ use Rattle.orc_tail.specs.declared.stream.Stream.{Stream}
 use Rattle.orc_tail.specs.declared.stream.StreamRange.{StreamRange}
 use Rattle.orc_tail.specs.declared.stripe_footer.StripeFooter.{StripeFooter}
 use Rattle.orc_tail.specs.Reading.{◌>>=◌}
-use Rattle.orc_tail.specs.Messages.{StripeFooterMessage, stripe_footer_of}
+use Rattle.orc_tail.specs.Messages.{stripe_footer_of}
 
 -- each stream begins where the one before it ends
 abbrev pub placed : ℕ → List Stream → List StreamRange

@@ -3,7 +3,7 @@
 -- and their order are this project's own.
 --
 --     "ORC" | stripes | metadata | footer | PostScript | p, the PostScript's length, in one byte
-use Rattle.std.specs.Prelude.{ℕ, ◌+◌, ◌-◌, ◌≤◌, Bool, true, not, ◌&&◌, ◌||◌, List, [], ◌∷◌, length, map, Option, Result, Ok, Err, ◌==◌, nat_lt, nat_le, if◌then◌else◌, slice_index, slice_range, bytes_eq, find}
+use Rattle.std.specs.Prelude.{ℕ, ◌+◌, ◌-◌, Bool, not, ◌&&◌, ◌||◌, List, [], ◌∷◌, length, map, Option, Result, Ok, Err, ◌==◌, nat_lt, nat_le, if◌then◌else◌, slice_index, slice_range, bytes_eq, find}
 use Rattle.std.specs.List.{list_all}
 use Rattle.orc_tail.specs.declared.fault.TailFault.{TailFault}
 use Rattle.orc_tail.specs.declared.fault.TailFault.TheVariants.{TooShort, NotOrc, Compressed, OutOfFile, BadTypes, TooLarge}
@@ -13,7 +13,7 @@ use Rattle.orc_tail.specs.declared.stripe.Stripe.{Stripe}
 use Rattle.orc_tail.specs.declared.columns.TopColumn.{TopColumn}
 use Rattle.orc_tail.specs.declared.tail.Tail.{Tail}
 use Rattle.orc_tail.specs.Reading.{◌>>=◌}
-use Rattle.orc_tail.specs.Messages.{postscript_of, TypeMessage, FooterMessage, footer_of}
+use Rattle.orc_tail.specs.Messages.{postscript_of, TypeMessage, footer_of}
 
 -- the greatest length of a file that is read, and the most stripes
 abbrev pub greatest_len : ℕ

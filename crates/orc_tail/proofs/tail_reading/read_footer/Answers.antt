@@ -1,5 +1,4 @@
-use Rattle.std.proofs.lemmas.Result.{err_from_is_err_and}
-use Rattle.orc_tail.proofs.Steps.{footer_stopped, footer_then}
+use Rattle.orc_tail.proofs.Steps.{footer_then}
 use Rattle.orc_tail.proofs.tail_reading.read_footer.Goals as goal
 
 pub returns-clause-followed : goal.returns-clause-followed

@@ -1,5 +1,3 @@
-use Rattle.std.proofs.Common.{◌≡◌, ap, ◌∙◌}
-use Rattle.orc_tail.specs.Tail.{footer_span}
 use Rattle.orc_tail.proofs.Steps.{span_then}
 use Rattle.orc_tail.proofs.tail_reading.read_span.Goals as goal
 
