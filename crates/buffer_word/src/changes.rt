@@ -3,6 +3,7 @@ ghost use Rattle.std.specs.Prelude.{◌≡◌, ℕ, ◌+◌, ◌-◌, ◌*◌, �
 ghost use Rattle.buffer_word.specs.Changes.{Releases, Settles};
 
 const ORDER_UNIT: u64 = 1 << 20;
+
 const PLACE_UNIT: u64 = 1 << 24;
 
 /// What is added to the word of an evicted buffer, wrapping at 64 bits, to release its header.

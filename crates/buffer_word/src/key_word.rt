@@ -4,8 +4,11 @@ ghost use Rattle.buffer_word.specs.KeyWord.{IsKey, key_word};
 ghost use Rattle.buffer_word.specs.declared.key_word.Key.{Key};
 
 const LEN_MASK: u64 = 0xF_FFFF;
+
 const AT_AT: u32 = 20;
+
 const AT_MASK: u64 = 0xFFFF_FFFF;
+
 const FILE_AT: u32 = 52;
 
 /// A range of a file.

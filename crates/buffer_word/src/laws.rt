@@ -9,59 +9,49 @@ ghost use Rattle.buffer_word.specs.Changes.{ReleasedIsEight, OpenedWord, Publish
 /// The word of a released header without a count is 8.
 pub fn released_is_eight()
     ensures { ReleasedIsEight }
-{
-}
+{}
 
 /// The word that opens a header is the one of a new buffer without a count.
 pub fn opened_word()
     ensures { OpenedWord }
-{
-}
+{}
 
 /// Adding 15 to the word of a new buffer makes it live, with one count more.
 pub fn publish_adds_15()
     ensures { PublishAdds15 }
-{
-}
+{}
 
 /// Adding 16 is one count more, whatever the mode.
 pub fn bid_adds_16()
     ensures { BidAdds16 }
-{
-}
+{}
 
 /// Subtracting 16 is one count less, whatever the mode.
 pub fn take_back_subtracts_16()
     ensures { TakeBackSubtracts16 }
-{
-}
+{}
 
 /// Adding 4 to the word of a live buffer makes it evicted.
 pub fn evict_adds_4()
     ensures { EvictAdds4 }
-{
-}
+{}
 
 /// Adding 2 to the word of a live buffer makes it moving.
 pub fn move_adds_2()
     ensures { MoveAdds2 }
-{
-}
+{}
 
 /// Subtracting 2 from the word of a moving buffer makes it live where it was.
 pub fn cancel_subtracts_2()
     ensures { CancelSubtracts2 }
-{
-}
+{}
 
 /// Two states that can be packed have two words.
 pub fn word_tells_state()
     ensures { WordTellsState }
-{
-}
+{}
 
 /// Two keys that can be packed have two words.
 pub fn word_tells_key()
     ensures { WordTellsKey }
-{
-}
+{}

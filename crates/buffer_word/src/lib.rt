@@ -57,6 +57,9 @@ mod tests {
     fn steps_lead_from_word_to_word(rt: HostRuntime) {
         // a buffer of order 4 at place 16 with two counts is released, and one is settled at place 48
         assert_eq!(rt; 0x1040_0024u64.wrapping_add(release_step(4, 16)), 0x28);
-        assert_eq!(rt; 0x1040_0022u64.wrapping_add(settle_step(16, 48)), 0x3040_0020);
+        assert_eq!(rt;
+            0x1040_0022u64.wrapping_add(settle_step(16, 48)),
+            0x3040_0020
+        );
     }
 }

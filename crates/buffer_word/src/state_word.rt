@@ -4,11 +4,17 @@ ghost use Rattle.buffer_word.specs.StateWord.{flag_of, state_word, IsPackable, H
 ghost use Rattle.buffer_word.specs.declared.state_word.State.{State};
 
 const FLAG_BITS: u32 = 4;
+
 const FLAG_MASK: u64 = 0xF;
+
 const COUNT_MASK: u64 = 0xFFFF;
+
 const ORDER_AT: u32 = 20;
+
 const ORDER_MASK: u64 = 0xF;
+
 const PLACE_AT: u32 = 24;
+
 const USED_BITS: u32 = 44;
 
 /// What a header's buffer is in.

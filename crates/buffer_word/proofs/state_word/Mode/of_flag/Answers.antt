@@ -16,6 +16,6 @@ returns-in-8-clause-refused c = (λ e. absurd (cc), λ h. absurd (flag_alone Rel
 pub returns-in_default-clause-refused : goal.returns-in_default-clause-refused
 returns-in_default-clause-refused c =
     let many : HasSeveralFlags c.args.flag =
-        other_flags c.args.flag c.requires (search rules) (search rules) (search rules) (search rules) (search rules)
+    other_flags c.args.flag c.requires (search rules) (search rules) (search rules) (search rules) (search rules)
     in
     (λ _. many, λ _. refl)
