@@ -1,10 +1,11 @@
 -- The answer of `find`: there is one, the function computes it, and it is a clear block.
-use Rattle.std.proofs.Common.{◌≡◌, ℕ, zero, suc, ◌+◌, ◌-◌, ◌*◌, ◌/◌, ◌%◌, ◌^◌, ◌<◌, ◌≤◌, ◌⊎◌, ◌↔◌, inl, inr, Bool, true, false, ◌&&◌, not, cond, eqb, leb, Option, Some, None, refl, sym, ap, ◌∙◌, subst, arith}
+use Rattle.std.proofs.Common.{◌≡◌, ℕ, zero, suc, ◌+◌, ◌*◌, ◌/◌, ◌%◌, ◌^◌, ◌<◌, ◌≤◌, ◌↔◌, inl, inr, Bool, true, false, not, cond, eqb, leb, Option, Some, None, refl, sym, ap, subst, arith}
+use Rattle.std.specs.Option.{option_or}
 use Rattle.std.proofs.lemmas.Nat.{pow_pos, le-div}
 use Rattle.std.proofs.Math.Nat.{mul-le-mul_right, pow-suc}
-use Rattle.std.proofs.lemmas.Bool.{cases_Bool, cases_lt, cases_eq, eqb-true, eq-eqb, leb-true, le-leb, and_parts, and_from, not-true, not_from_false, false_from_ne_true, both_ways}
-use Rattle.buddy_arena.specs.Block.{around, IsBlock, IsClear}
-use Rattle.buddy_arena.specs.Buddy.{IsClearBlock, IsFree, IsBest, IsBuddy, is_clear_block, is_free_block, first_of_two, lowest_free, buddy_among, buddy}
+use Rattle.std.proofs.lemmas.Bool.{cases_lt, cases_eq, eqb-true, eq-eqb, leb-true, le-leb, and_parts, and_from, not-true, not_from_false, false_from_ne_true, both_ways}
+use Rattle.buddy_arena.specs.Block.{around}
+use Rattle.buddy_arena.specs.Buddy.{IsClearBlock, IsFree, IsBest, IsBuddyAnswer, is_clear_block, is_free_block, lowest_free, buddy_among, buddy_answer}
 use Rattle.buddy_arena.proofs.BitLemmas.{zero_from_clear, clear_from_zero}
 use Rattle.buddy_arena.proofs.BlockLemmas.{around_times, around_around}
 use Rattle.buddy_arena.proofs.FreeLemmas.{free_from_parent, parent_of_free, clear_smaller}
@@ -57,7 +58,7 @@ lowest_here size bits k n none here q free =
       | inr from ↦ omega (arith, mul-le-mul_right (2 ^ k) from)
     ]
 
-lowest_step : (size bits k n : ℕ) (x : Option ℕ) (b : Bool) → is_free_block size bits (n * 2 ^ k) k ≡ b → IsLowest size bits k n x → IsLowest size bits k (suc n) (first_of_two x (cond b (Some (n * 2 ^ k)) None))
+lowest_step : (size bits k n : ℕ) (x : Option ℕ) (b : Bool) → is_free_block size bits (n * 2 ^ k) k ≡ b → IsLowest size bits k n x → IsLowest size bits k (suc n) (option_or x (cond b (Some (n * 2 ^ k)) None))
 unfolding IsLowest
 lowest_step size bits k n (Some p) b e h = h
 lowest_step size bits k n None true e h =
@@ -98,7 +99,7 @@ above_order size bits order none p k free from =
       | inr other ↦ omega arith
     ]
 
-among_step : (size bits order n : ℕ) (x y : Option ℕ) → IsLowest size bits order (size / 2 ^ order) x → IsAmong size bits (order + 1) n y → IsAmong size bits order (suc n) (first_of_two x y)
+among_step : (size bits order n : ℕ) (x y : Option ℕ) → IsLowest size bits order (size / 2 ^ order) x → IsAmong size bits (order + 1) n y → IsAmong size bits order (suc n) (option_or x y)
 unfolding IsLowest IsAmong
 among_step size bits order n (Some p) y lowest rest =
     (order, record { free = lowest.0; serves = omega arith; smallest = λ q k free from. from; lowest = lowest.1 })
@@ -131,19 +132,19 @@ pow_above (suc k) = omega (arith, pow_above k, pow_twice k)
     pow_twice : (k : ℕ) → 2 ^ suc k ≡ 2 ^ k * 2
     pow_twice k = pow-suc 2 k
 
-answer_from_among : (size bits order : ℕ) (x : Option ℕ) → IsAmong size bits order size x → IsBuddy size bits order x
+answer_from_among : (size bits order : ℕ) (x : Option ℕ) → IsAmong size bits order size x → IsBuddyAnswer size bits order x
 unfolding IsAmong
 answer_from_among size bits order (Some p) h = h
 answer_from_among size bits order None h = λ p k free from.
     omega (arith, h p k free from, pow_above k, free.here.block.inside)
 
 -- the function gives the answer
-pub buddy_answers : (size bits order : ℕ) → IsBuddy size bits order (buddy size bits order)
-unfolding buddy
+pub buddy_answers : (size bits order : ℕ) → IsBuddyAnswer size bits order (buddy_answer size bits order)
+unfolding buddy_answer
 buddy_answers size bits order = answer_from_among size bits order (buddy_among size bits order size) (among_is size bits order size)
 
 -- there is one answer at most
-pub one_answer : (size bits order : ℕ) (a b : Option ℕ) → IsBuddy size bits order a → IsBuddy size bits order b → a ≡ b
+pub one_answer : (size bits order : ℕ) (a b : Option ℕ) → IsBuddyAnswer size bits order a → IsBuddyAnswer size bits order b → a ≡ b
 one_answer size bits order (Some p) (Some q) x y = ap Some (one_place size bits order p q x.0 y.0 x.1 y.1)
   where
     one_place : (size bits order p q k j : ℕ) → IsBest size bits order p k → IsBest size bits order q j → p ≡ q
@@ -155,11 +156,11 @@ one_answer size bits order None (Some q) x y = absurd (x q y.0 y.1.free y.1.serv
 one_answer size bits order None None x y = refl
 
 -- the answer is a clear block of the order
-pub answer_clear : (size bits order place : ℕ) → IsBuddy size bits order (Some place) → IsClearBlock size bits place order
+pub answer_clear : (size bits order place : ℕ) → IsBuddyAnswer size bits order (Some place) → IsClearBlock size bits place order
 answer_clear size bits order place best = clear_smaller size bits place order best.0 best.1.serves best.1.free.here
 
-pub answer_is : (size bits order : ℕ) (answer : Option ℕ) → IsBuddy size bits order answer ↔ (answer ≡ buddy size bits order)
+pub answer_is : (size bits order : ℕ) (answer : Option ℕ) → IsBuddyAnswer size bits order answer ↔ (answer ≡ buddy_answer size bits order)
 answer_is size bits order answer = (
-  λ is. one_answer size bits order answer (buddy size bits order) is (buddy_answers size bits order),
-  λ same. subst (λ (x : Option ℕ). IsBuddy size bits order x) (sym same) (buddy_answers size bits order),
+  λ is. one_answer size bits order answer (buddy_answer size bits order) is (buddy_answers size bits order),
+  λ same. subst (λ (x : Option ℕ). IsBuddyAnswer size bits order x) (sym same) (buddy_answers size bits order),
 )

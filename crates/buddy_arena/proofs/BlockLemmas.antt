@@ -1,10 +1,10 @@
 -- Blocks: where they begin, how they lie in one another, and what fits.
-use Rattle.std.proofs.Common.{◌≡◌, ℕ, ◌+◌, ◌-◌, ◌*◌, ◌/◌, ◌%◌, ◌^◌, ◌<◌, ◌≤◌, ◌⊎◌, inl, inr, refl, sym, ap, ◌∙◌, subst, arith}
+use Rattle.std.proofs.Common.{◌≡◌, ℕ, ◌+◌, ◌-◌, ◌*◌, ◌/◌, ◌%◌, ◌^◌, ◌<◌, ◌≤◌, ◌≢◌, ◌⊎◌, inl, inr, sym, ap, ◌∙◌, subst, arith}
 use Rattle.std.proofs.Math.Nat.{mul-le-mul_right, div-mul-le_self}
-use Rattle.std.proofs.lemmas.Nat.{div-mul-add, shl-shr, shr-shr, shr_split, pow_pos, pow-add, mod_below, div-add-mod'}
+use Rattle.std.proofs.lemmas.Nat.{mod-pow-add, div-mul-add, shl-shr, shr-shr, shr_split, pow_pos, pow-add, mod_below, div-add-mod'}
 use Rattle.std.proofs.Math.Pow.{pow_mono}
 use Rattle.std.proofs.lemmas.Bool.{cases_lt}
-use Rattle.buddy_arena.specs.Block.{around, IsBlock}
+use Rattle.buddy_arena.specs.Block.{around, IsBlock, covers}
 
 -- where a block begins, the block around its place begins
 pub around_times : (q k : ℕ) → around (q * 2 ^ k) k ≡ q * 2 ^ k
@@ -122,3 +122,24 @@ pub smaller_block : (size place order smaller : ℕ) → smaller ≤ order → I
 smaller_block size place order smaller h block =
     let within : 2 ^ smaller ≤ 2 ^ order = pow_mono h in
     record { aligned = aligned_smaller place smaller order h block.aligned; inside = omega (arith, block.inside) }
+
+-- a block up to order 6 lies in one arena of 64 places
+pub block_in_arena : (place order : ℕ) → order ≤ 6 → around place order ≡ place → IsBlock 64 (place % 64) order
+block_in_arena place order h own =
+    let arena : (6 - order) + order ≡ 6 = omega arith in
+    let whole : 2 ^ (6 - order) * 2 ^ order ≡ 64 = sym (pow-add 2 (6 - order) order) ∙ ap (λ (x : ℕ). 2 ^ x) arena in
+    let rest : place % 2 ^ order ≡ 0 = omega (arith, shr_split place order) in
+    let times : place % 64 ≡ place / 2 ^ order % 2 ^ (6 - order) * 2 ^ order =
+    ap (λ (x : ℕ). place % 2 ^ x) (sym arena) ∙ mod-pow-add place (6 - order) order ∙ omega (arith, rest)
+    in
+    let begins : around (place % 64) order ≡ place % 64 =
+    subst (λ (x : ℕ). around x order ≡ x) (sym times) (around_times (place / 2 ^ order % 2 ^ (6 - order)) order)
+    in
+    let below : place % 64 < 2 ^ (6 - order) * 2 ^ order = omega (arith, whole) in
+    record { aligned = begins; inside = omega (arith, whole, multiple_fits (place % 64) order (2 ^ (6 - order)) begins below) }
+
+pub covers_in_arena : (place order p : ℕ) → order ≤ 6 → around place order ≡ place →
+    (p / 64 ≡ place / 64 → covers place order p ≡ covers (place % 64) order (p % 64)) × (p / 64 ≢ place / 64 → covers place order p ≡ 0)
+covers_in_arena place order p h own =
+    let fits = (block_in_arena place order h own).inside in
+    (λ same. omega (arith, fits), λ other. omega (arith, fits))

@@ -1,21 +1,20 @@
 -- The exits of `find`: the best free block is the lowest of the first size that has one.
-use Rattle.std.proofs.Common.{◌≡◌, ℕ, ◌+◌, ◌^◌, ◌<◌, ◌≤◌, inl, inr, Option, Some, None, sym, ap, ◌∙◌, subst, arith}
+use Rattle.std.proofs.Common.{◌≡◌, ℕ, ◌+◌, ◌^◌, ◌<◌, ◌≤◌, inl, inr, Some, None, ap, subst, arith}
 use Rattle.std.specs.Int.{w64, bit_at, trailing_zeros}
 use Rattle.std.proofs.lemmas.Nat.Bits.{bit_at-zero, bit_at-trailing_zeros}
 use Rattle.std.proofs.lemmas.Bool.{cases_lt}
-use Rattle.buddy_arena.specs.Block.{around}
-use Rattle.buddy_arena.specs.Buddy.{IsClearBlock, IsFree, IsBuddy}
+use Rattle.buddy_arena.specs.Buddy.{IsClearBlock, IsFree, IsBuddyAnswer}
 use Rattle.buddy_arena.specs.Sets.{IsSetOf}
-use Rattle.buddy_arena.proofs.BlockLemmas.{order_within, pow_double}
+use Rattle.buddy_arena.proofs.BlockLemmas.{order_within}
 use Rattle.buddy_arena.proofs.FreeLemmas.{free_from_parent}
 
 -- no block has an order above 6
-pub none_above : (word order : ℕ) → 6 < order → IsBuddy 64 word order None
+pub none_above : (word order : ℕ) → 6 < order → IsBuddyAnswer 64 word order None
 none_above word order h = λ p k free from. omega (arith, order_within k (omega (arith, free.here.block.inside)))
 
 -- the lowest place of the set is the answer, where the set has the free blocks of a size and no smaller one serves
 pub best_of_set : (word order size set : ℕ) → set < 2 ^ 64 → (set ≡ 0 → ⊥) → IsSetOf set (λ p. IsFree 64 word p size) → order ≤ size →
-    ((p k : ℕ) → IsFree 64 word p k → order ≤ k → size ≤ k) → IsBuddy 64 word order (Some (trailing_zeros w64 set))
+    ((p k : ℕ) → IsFree 64 word p k → order ≤ k → size ≤ k) → IsBuddyAnswer 64 word order (Some (trailing_zeros w64 set))
 best_of_set word order size set fits some frees serves smaller =
     let positive : 0 < set = omega arith in
     let lowest_bit = bit_at-trailing_zeros w64 set positive fits in (
@@ -54,7 +53,7 @@ whole_arena word p clear =
 
 -- the arena is clear
 pub best_of_arena : (word order size set : ℕ) → set < 2 ^ 64 → (set ≡ 0 → ⊥) → size ≡ 6 → IsSetOf set (λ p. IsClearBlock 64 word p size) → order ≤ size →
-    ((p k : ℕ) → IsFree 64 word p k → order ≤ k → size ≤ k) → IsBuddy 64 word order (Some 0)
+    ((p k : ℕ) → IsFree 64 word p k → order ≤ k → size ≤ k) → IsBuddyAnswer 64 word order (Some 0)
 best_of_arena word order size set fits some top clears serves smaller =
     let positive : 0 < set = omega arith in
     let lowest_bit = bit_at-trailing_zeros w64 set positive fits in
@@ -71,7 +70,7 @@ best_of_arena word order size set fits some top clears serves smaller =
 
 -- no block is free
 pub none_in_arena : (word order size set : ℕ) → set ≡ 0 → size ≡ 6 → IsSetOf set (λ p. IsClearBlock 64 word p size) →
-    ((p k : ℕ) → IsFree 64 word p k → order ≤ k → size ≤ k) → IsBuddy 64 word order None
+    ((p k : ℕ) → IsFree 64 word p k → order ≤ k → size ≤ k) → IsBuddyAnswer 64 word order None
 none_in_arena word order size set empty top clears smaller = λ p k free from.
     let block = free.here.block in
     let same : k ≡ size = omega (arith, order_within k (omega (arith, block.inside)), smaller p k free from) in

@@ -1,8 +1,8 @@
 -- Clear and free blocks: what a clear block's parent says.
-use Rattle.std.proofs.Common.{◌≡◌, ℕ, ◌+◌, ◌-◌, ◌*◌, ◌/◌, ◌^◌, ◌<◌, ◌≤◌, sym, subst, arith}
-use Rattle.buddy_arena.specs.Block.{around, IsBlock, IsClear}
+use Rattle.std.proofs.Common.{◌≡◌, ℕ, ◌+◌, ◌≤◌, sym, subst, arith}
+use Rattle.buddy_arena.specs.Block.{around}
 use Rattle.buddy_arena.specs.Buddy.{IsClearBlock, IsFree}
-use Rattle.buddy_arena.proofs.BlockLemmas.{around_around, around_low, around_high, nested_begin, nested_end, aligned_smaller}
+use Rattle.buddy_arena.proofs.BlockLemmas.{around_around, nested_begin, nested_end, aligned_smaller}
 
 -- the part of a clear block that is a block of a smaller order is clear
 pub clear_part : (size bits p j k : ℕ) → j ≤ k → IsClearBlock size bits (around p k) k → IsClearBlock size bits (around p j) j

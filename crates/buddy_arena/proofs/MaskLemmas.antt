@@ -1,10 +1,10 @@
 -- Masks: the bits of a block in a word, set, cleared and tested.
-use Rattle.std.proofs.Common.{◌≡◌, ℕ, ◌+◌, ◌-◌, ◌*◌, ◌/◌, ◌%◌, ◌^◌, ◌<◌, ◌≤◌, ◌⊎◌, ◌↔◌, min, max, inl, inr, refl, sym, ap, ◌∙◌, subst, arith}
+use Rattle.std.proofs.Common.{◌≡◌, ℕ, ◌+◌, ◌-◌, ◌*◌, ◌/◌, ◌%◌, ◌^◌, ◌<◌, inl, inr, sym, ap, ◌∙◌, arith}
 use Rattle.std.specs.Prelude.{bit_and, bit_or, count_ones}
 use Rattle.std.specs.Int.{w64, bit_at, bit_not}
 use Rattle.std.proofs.lemmas.Nat.Bits.{bit_at-lt, bit_at-zero, bit_at_and, bit_at_or, bit_at_not, bit_at_above, same_from_bits}
 use Rattle.std.proofs.lemmas.Bool.{cases_lt}
-use Rattle.buddy_arena.specs.Block.{around, IsBlock, covers, IsClear, IsMask}
+use Rattle.buddy_arena.specs.Block.{IsBlock, covers, IsClear, IsMask}
 use Rattle.buddy_arena.specs.Window.{IsMovable, taken_in}
 use Rattle.buddy_arena.proofs.BitLemmas.{and_part, ones_shl}
 

@@ -1,11 +1,11 @@
 -- A scan of the blocks of one order, from the lowest up: a block that isn't movable is passed over, one that is may be the cheapest.
-use Rattle.std.proofs.Common.{◌≡◌, ℕ, ◌+◌, ◌-◌, ◌*◌, ◌/◌, ◌%◌, ◌^◌, ◌<◌, ◌≤◌, ◌⊎◌, inl, inr, Bool, true, false, cond, leb, Option, Some, None, refl, sym, ap, ◌∙◌, subst, arith}
+use Rattle.std.proofs.Common.{◌≡◌, ℕ, ◌+◌, ◌*◌, ◌/◌, ◌^◌, ◌<◌, ◌≤◌, ◌⊎◌, inl, inr, Bool, true, false, cond, leb, Option, Some, None, refl, sym, ap, subst, arith}
 use Rattle.std.specs.Prelude.{MatchOption}
 use Rattle.std.proofs.Math.Nat.{mul-le-mul_right, div-mul-le_self}
 use Rattle.std.proofs.lemmas.Nat.{pow_pos, le-div}
-use Rattle.std.proofs.lemmas.Bool.{cases_Bool, cases_lt, cases_eq, leb-true, leb-false}
+use Rattle.std.proofs.lemmas.Bool.{cases_lt, leb-true, leb-false}
 use Rattle.buddy_arena.specs.Block.{around, IsBlock}
-use Rattle.buddy_arena.specs.Window.{IsMovable, taken_in, IsCheapest, IsWindow}
+use Rattle.buddy_arena.specs.Window.{IsMovable, taken_in, IsWindow}
 use Rattle.buddy_arena.specs.Candidates.{IsCheapestBelow, IsFoundBelow}
 use Rattle.buddy_arena.specs.declared.windows.Candidate.{Candidate}
 use Rattle.buddy_arena.proofs.BlockLemmas.{around_times}

@@ -1,15 +1,15 @@
 -- Words as sets of places: the clear blocks of order 0, those of the next order, the aligned places and the free blocks.
-use Rattle.std.proofs.Common.{◌≡◌, ℕ, ◌+◌, ◌-◌, ◌*◌, ◌/◌, ◌%◌, ◌^◌, ◌<◌, ◌≤◌, ◌⊎◌, min, max, inl, inr, Bool, true, ◌&&◌, eqb, leb, refl, sym, ap, ◌∙◌, subst, arith}
+use Rattle.std.proofs.Common.{◌≡◌, ℕ, ◌+◌, ◌-◌, ◌*◌, ◌/◌, ◌%◌, ◌^◌, ◌<◌, ◌≤◌, inl, inr, Bool, true, ◌&&◌, eqb, leb, sym, ◌∙◌, subst, arith}
 use Rattle.std.specs.Prelude.{bit_and, bit_or}
 use Rattle.std.specs.Int.{w64, bit_at, bit_not}
-use Rattle.std.proofs.lemmas.Nat.{pow_pos, pow_below}
+use Rattle.std.proofs.lemmas.Nat.{pow_pos}
 use Rattle.std.proofs.lemmas.Nat.Bits.{bit_at-lt, bit_at_and, bit_at_or, bit_at_not}
 use Rattle.std.proofs.lemmas.Bool.{agree_below, agree_below_at, cases_lt, eqb-true, eq-eqb, leb-true, le-leb, and_parts, and_from}
 use Rattle.buddy_arena.specs.Block.{around, IsBlock, IsClear}
 use Rattle.buddy_arena.specs.Buddy.{IsClearBlock, IsFree}
 use Rattle.buddy_arena.specs.Sets.{IsSetOf}
 use Rattle.buddy_arena.proofs.BitLemmas.{bit_at_shr, bit_at_rest, bit_at_shl_low, bit_at_shl_high, bit_below_64}
-use Rattle.buddy_arena.proofs.BlockLemmas.{aligned_smaller, pow_double, parent_cases, upper_half, around_upper, around_around}
+use Rattle.buddy_arena.proofs.BlockLemmas.{aligned_smaller, pow_double, parent_cases, upper_half, around_upper}
 use Rattle.buddy_arena.proofs.FreeLemmas.{free_from_parent, parent_of_free}
 
 -- the places that aren't taken are the clear blocks of order 0

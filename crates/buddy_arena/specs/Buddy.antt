@@ -1,5 +1,6 @@
 -- The free blocks of an arena, and which of them serves an order. Source: this project's own; after the buddy system.
-use Rattle.std.specs.Prelude.{◌≡◌, ℕ, zero, suc, ◌+◌, ◌*◌, ◌/◌, ◌%◌, ◌^◌, ◌<◌, ◌≤◌, Bool, ◌&&◌, not, nat_le, ◌==◌, if◌then◌else◌, Option, Some, None}
+use Rattle.std.specs.Prelude.{ℕ, zero, suc, ◌+◌, ◌*◌, ◌/◌, ◌%◌, ◌^◌, ◌<◌, ◌≤◌, Bool, ◌&&◌, not, nat_le, ◌==◌, if◌then◌else◌, Option, Some, None}
+use Rattle.std.specs.Option.{option_or}
 use Rattle.buddy_arena.specs.Block.{around, IsBlock, IsClear}
 
 -- a block of which no place is taken
@@ -20,9 +21,9 @@ pub record IsBest (size bits order place own : ℕ) : Type 0 where
   pub lowest : (p : ℕ) → IsFree size bits p own → place ≤ p
 
 -- the answer to 'where is a block of this order': the place of the best free block, or none where no free block has the order or more
-abbrev pub IsBuddy : ℕ → ℕ → ℕ → Option ℕ → Type 0
-IsBuddy size bits order (Some place) = (own : ℕ) × IsBest size bits order place own
-IsBuddy size bits order None = (p k : ℕ) → IsFree size bits p k → order ≤ k → ⊥
+abbrev pub IsBuddyAnswer : ℕ → ℕ → ℕ → Option ℕ → Type 0
+IsBuddyAnswer size bits order (Some place) = (own : ℕ) × IsBest size bits order place own
+IsBuddyAnswer size bits order None = (p k : ℕ) → IsFree size bits p k → order ≤ k → ⊥
 
 -- ---- the same answer as a function, for those who compute with it
 
@@ -34,24 +35,19 @@ unfoldable pub is_free_block : ℕ → ℕ → ℕ → ℕ → Bool
 is_free_block size bits place order =
     is_clear_block size bits place order && not (is_clear_block size bits (around place (order + 1)) (order + 1))
 
--- x, or where there is none y
-abbrev pub first_of_two : Option ℕ → Option ℕ → Option ℕ
-first_of_two (Some x) y = Some x
-first_of_two None y = y
-
 -- the place of the lowest free block of the order, among the first n blocks of that order
 unfoldable pub lowest_free : ℕ → ℕ → ℕ → ℕ → Option ℕ
 lowest_free size bits order zero = None
 lowest_free size bits order (suc n) =
-    first_of_two (lowest_free size bits order n)
+    option_or (lowest_free size bits order n)
     (if is_free_block size bits (n * 2 ^ order) order then Some (n * 2 ^ order) else None)
 
 -- the first answer among n orders, from this order on
 unfoldable pub buddy_among : ℕ → ℕ → ℕ → ℕ → Option ℕ
 buddy_among size bits order zero = None
 buddy_among size bits order (suc n) =
-    first_of_two (lowest_free size bits order (size / 2 ^ order)) (buddy_among size bits (order + 1) n)
+    option_or (lowest_free size bits order (size / 2 ^ order)) (buddy_among size bits (order + 1) n)
 
 -- the answer; an arena has fewer orders than places
-unfoldable pub buddy : ℕ → ℕ → ℕ → Option ℕ
-buddy size bits order = buddy_among size bits order size
+unfoldable pub buddy_answer : ℕ → ℕ → ℕ → Option ℕ
+buddy_answer size bits order = buddy_among size bits order size

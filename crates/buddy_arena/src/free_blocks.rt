@@ -1,7 +1,7 @@
 // Which blocks are clear and free, as sets of places in one word, and which free block serves an order.
 ghost use Rattle.std.specs.Prelude.{◌≡◌, ℕ, suc, ◌+◌, ◌≤◌, ◌<◌};
 ghost use Rattle.buddy_arena.specs.Block.{IsBlock};
-ghost use Rattle.buddy_arena.specs.Buddy.{IsClearBlock, IsFree, IsBuddy, buddy};
+ghost use Rattle.buddy_arena.specs.Buddy.{IsClearBlock, IsFree, IsBuddyAnswer, buddy_answer};
 ghost use Rattle.buddy_arena.specs.Sets.{IsSetOf};
 
 use crate::blocks::{TOP_ORDER, places};
@@ -14,8 +14,8 @@ use crate::blocks::{TOP_ORDER, places};
 ///
 /// Source: this project's own; after the buddy system.
 pub fn find(word: u64, order: u32) -> Option<u32>
-    ensures answer { IsBuddy 64 word order result }
-    ensures same { result ≡ buddy 64 word order }
+    ensures answer { IsBuddyAnswer 64 word order result }
+    ensures same { result ≡ buddy_answer 64 word order }
 {
     if order > TOP_ORDER {
         return None;

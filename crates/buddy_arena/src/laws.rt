@@ -2,11 +2,21 @@
 //!
 //! No function here does anything: each contract is a law, for arenas of any size and for all orders.
 
-ghost use Rattle.buddy_arena.specs.Laws.{AroundIsBlock, BlockHasSmaller, BuddyIsClearBlock, BuddyIsAnswer, OneWindow, MaskTestsClear, SettingTakes, ClearingGives, MaskCountsTaken, JoinedBits, WorkedAnswers};
+ghost use Rattle.buddy_arena.specs.Laws.{AroundIsBlock, BlockInArena, CoversInArena, BlockHasSmaller, BuddyIsClearBlock, BuddyIsAnswer, OneWindow, MaskTestsClear, SettingTakes, ClearingGives, MaskCountsTaken, JoinedBits, WorkedAnswers};
 
 /// In an arena of whole blocks of an order, the block around each place is a block. So one can be shown to `mask`.
 pub fn around_is_block()
     ensures { AroundIsBlock }
+{}
+
+/// Where a place is counted over all arenas, a block up to order 6 is a block of the place's own arena.
+pub fn block_in_arena()
+    ensures { BlockInArena }
+{}
+
+/// Such a block covers places of its own arena alone, the same as there.
+pub fn covers_in_arena()
+    ensures { CoversInArena }
 {}
 
 /// A block is, from its place on, a block of each smaller order too.

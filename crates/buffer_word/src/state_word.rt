@@ -17,7 +17,7 @@ const PLACE_AT: u32 = 24;
 
 const USED_BITS: u32 = 44;
 
-/// What a header's buffer is in.
+/// What a header has: no buffer, or one that may be pinned, or one that is on its way.
 #[derive(Clone, Copy, Debug, PartialEq, Eq)]
 pub enum Mode {
     /// There is no buffer.
@@ -37,7 +37,7 @@ pub enum Mode {
 pub struct State {
     /// How many use the buffer, or try to.
     pub count: u16,
-    /// What the buffer is in.
+    /// What the header has.
     pub mode: Mode,
     /// The order of its block: `2 ^ order` minimum blocks. Below 16.
     pub order: u32,

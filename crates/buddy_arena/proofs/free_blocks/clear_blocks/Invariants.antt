@@ -1,4 +1,3 @@
-use Rattle.std.proofs.Common.{ℕ}
 use Rattle.buddy_arena.specs.Buddy.{IsClearBlock}
 use Rattle.buddy_arena.specs.Sets.{IsSetOf}
 use Rattle.buddy_arena.proofs.free_blocks.clear_blocks.Given as goal

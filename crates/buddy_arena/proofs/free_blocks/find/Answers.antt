@@ -1,12 +1,12 @@
-use Rattle.std.proofs.Common.{◌≡◌, ℕ, ◌≤◌, Option, Some, None, arith}
+use Rattle.std.proofs.Common.{◌≡◌, ℕ, Option, Some, None, arith}
 use Rattle.std.specs.Int.{w64, trailing_zeros}
-use Rattle.buddy_arena.specs.Buddy.{IsBuddy, buddy}
+use Rattle.buddy_arena.specs.Buddy.{IsBuddyAnswer, buddy_answer}
 use Rattle.buddy_arena.proofs.AnswerLemmas.{one_answer, buddy_answers}
 use Rattle.buddy_arena.proofs.FindLemmas.{none_above, best_of_set, next_size, best_of_arena, none_in_arena}
 use Rattle.buddy_arena.proofs.free_blocks.find.Goals as goal
 
-same_answer : (word order : ℕ) (answer : Option ℕ) → IsBuddy 64 word order answer → answer ≡ buddy 64 word order
-same_answer word order answer is = one_answer 64 word order answer (buddy 64 word order) is (buddy_answers 64 word order)
+same_answer : (word order : ℕ) (answer : Option ℕ) → IsBuddyAnswer 64 word order answer → answer ≡ buddy_answer 64 word order
+same_answer word order answer is = one_answer 64 word order answer (buddy_answer 64 word order) is (buddy_answers 64 word order)
 
 pub returns-then-order-gt-TOP_ORDER-clause-answer : goal.returns-then-order-gt-TOP_ORDER-clause-answer
 returns-then-order-gt-TOP_ORDER-clause-answer c = none_above c.args.word c.args.order c.if-order-gt-TOP_ORDER.true

@@ -1,7 +1,7 @@
-use Rattle.std.proofs.Common.{ℕ, ◌-◌, ◌*◌, ◌%◌, ◌+◌, ◌^◌, ◌<◌, sym, subst, arith, pow_pos}
+use Rattle.std.proofs.Common.{ℕ, ◌*◌, ◌%◌, ◌^◌, ◌<◌, sym, subst, arith}
 use Rattle.std.specs.Prelude.{bit_and, bit_or}
 use Rattle.std.specs.Int.{w64, bit_not}
-use Rattle.std.proofs.lemmas.Nat.{pow_below, or_lt, mod_below}
+use Rattle.std.proofs.lemmas.Nat.{pow_below, or_lt}
 use Rattle.buddy_arena.specs.Buddy.{IsFree}
 use Rattle.buddy_arena.specs.Sets.{IsSetOf}
 use Rattle.buddy_arena.proofs.SetLemmas.{free_set}

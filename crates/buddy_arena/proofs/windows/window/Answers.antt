@@ -1,7 +1,7 @@
-use Rattle.std.proofs.Common.{◌≡◌, ℕ, ◌+◌, ◌-◌, ◌*◌, ◌/◌, ◌%◌, ◌^◌, ◌<◌, ◌≤◌, Option, Some, None, cond, leb, sym, ap, ◌∙◌, subst, arith}
+use Rattle.std.proofs.Common.{◌≡◌, ℕ, ◌+◌, ◌-◌, ◌*◌, ◌/◌, ◌%◌, ◌^◌, ◌<◌, Option, Some, cond, leb, sym, ap, ◌∙◌, subst, arith}
 use Rattle.std.specs.Prelude.{bit_and, count_ones, MatchOption}
 use Rattle.std.specs.Int.{w64, bit_not}
-use Rattle.buddy_arena.specs.Block.{around, IsBlock, IsMask}
+use Rattle.buddy_arena.specs.Block.{IsBlock, IsMask}
 use Rattle.buddy_arena.specs.Candidates.{IsFoundBelow}
 use Rattle.buddy_arena.specs.declared.windows.Candidate.{Candidate}
 use Rattle.buddy_arena.proofs.BlockLemmas.{order_within}
