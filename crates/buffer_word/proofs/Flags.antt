@@ -1,5 +1,5 @@
 -- The four flags: which numbers below 16 have more than one bit set.
-use Rattle.std.proofs.Common.{◌≡◌, ℕ, ◌+◌, ◌*◌, ◌%◌, ◌^◌, ◌<◌, ◌≤◌, Bool, true, false, not, ◌||◌, eqb, ltb, refl, sym, ◌∙◌, subst, arith, lit≤}
+use Rattle.std.proofs.Common.{◌≡◌, ℕ, ◌%◌, ◌<◌, Bool, not, ◌||◌, eqb, ltb, refl, ◌∙◌, subst, arith}
 use Rattle.std.specs.Prelude.{bit_and, count_ones}
 use Rattle.std.specs.Int.Count.{ones}
 use Rattle.std.proofs.lemmas.Bool.{agree_below_at, ltb-true, ne_eqb}

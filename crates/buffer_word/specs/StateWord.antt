@@ -1,6 +1,6 @@
 -- The word of one header of the buffer pool. Source: this project's own format.
 -- Bits 0 to 3 are flags, bits 4 to 19 the count, bits 20 to 23 the order, bits 24 to 43 the place; the rest is 0.
-use Rattle.std.specs.Prelude.{◌≡◌, ℕ, ◌+◌, ◌*◌, ◌%◌, ◌^◌, ◌<◌, ◌≤◌, ◌⊎◌, count_ones}
+use Rattle.std.specs.Prelude.{ℕ, ◌+◌, ◌*◌, ◌%◌, ◌^◌, ◌<◌, ◌≤◌, count_ones}
 use Rattle.buffer_word.specs.declared.state_word.Mode.{Mode}
 use Rattle.buffer_word.specs.declared.state_word.Mode.TheVariants.{Released, New, Live, Moving, Evicted}
 use Rattle.buffer_word.specs.declared.state_word.State.{State}

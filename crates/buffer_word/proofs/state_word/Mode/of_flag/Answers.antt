@@ -1,4 +1,4 @@
-use Rattle.std.proofs.Common.{rules, arith, refl}
+use Rattle.std.proofs.Common.{rules, refl}
 use Rattle.buffer_word.specs.StateWord.{HasSeveralFlags}
 use Rattle.buffer_word.specs.declared.state_word.Mode.TheVariants.{Released, Moving, Evicted}
 use Rattle.buffer_word.proofs.Flags.{flag_alone, other_flags}
