@@ -77,9 +77,6 @@ larger_set clear aligned bits k blocks halves = record {
           | inr there ↦ upper.at q (omega arith) (omega arith)
         ]
 
-begins_block : ℕ → ℕ → Bool
-begins_block k p = eqb (around p k) p && leb (p + 2 ^ k) 64
-
 -- a word that has bit p set just where a block of the order begins, by looking at each of the 64 places
 pub aligned_set : (set k : ℕ) → set < 2 ^ 64 → agree_below (λ p. eqb (bit_at set p) 1) (λ p. eqb (around p k) p && leb (p + 2 ^ k) 64) 64 ≡ true →
     IsSetOf set (λ p. IsBlock 64 p k)

@@ -1,5 +1,5 @@
 // Which blocks are clear and free, as sets of places in one word, and which free block serves an order.
-ghost use Rattle.std.specs.Prelude.{◌≡◌, ℕ, suc, ◌+◌, ◌≤◌, ◌<◌};
+ghost use Rattle.std.specs.Prelude.{◌≡◌, ℕ, ◌+◌, ◌<◌, ◌≤◌};
 ghost use Rattle.buddy_arena.specs.Block.{IsBlock};
 ghost use Rattle.buddy_arena.specs.Buddy.{IsClearBlock, IsFree, IsBuddyAnswer, buddy_answer};
 ghost use Rattle.buddy_arena.specs.Sets.{IsSetOf};

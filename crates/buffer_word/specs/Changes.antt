@@ -1,4 +1,5 @@
--- What the pool's changes of a state word do to the state in it. `word_of count mode order place` is the word of a state.
+-- What the pool's changes of a state word do to the state in it. Source: this project's own format.
+-- `word_of count mode order place` is the word of a state.
 -- The sums are those of 64 bits: `(w + k) % 2 ^ 64` is what adding k leaves, `(w + (2 ^ 64 - k)) % 2 ^ 64` what subtracting k leaves.
 use Rattle.std.specs.Prelude.{◌≡◌, ℕ, ◌+◌, ◌-◌, ◌*◌, ◌%◌, ◌^◌, ◌<◌}
 use Rattle.buffer_word.specs.declared.state_word.Mode.{Mode}

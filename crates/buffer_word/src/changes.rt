@@ -1,5 +1,5 @@
 // The two changes of a state word whose number isn't a constant. Each is added, and wraps at 64 bits.
-ghost use Rattle.std.specs.Prelude.{◌≡◌, ℕ, ◌+◌, ◌-◌, ◌*◌, ◌%◌, ◌^◌, ◌<◌};
+ghost use Rattle.std.specs.Prelude.{◌^◌, ◌<◌};
 ghost use Rattle.buffer_word.specs.Changes.{Releases, Settles};
 
 const ORDER_UNIT: u64 = 1 << 20;

@@ -1,5 +1,5 @@
 // The state word: one flag at most, the count, the order and the place.
-ghost use Rattle.std.specs.Prelude.{◌≡◌, ℕ, ◌⊎◌, ◌↔◌, IsNone, IfSome, IfNone, Some, ◌<◌, ◌^◌};
+ghost use Rattle.std.specs.Prelude.{◌≡◌, ◌^◌, ◌<◌, ◌⊎◌, ◌↔◌, IsNone, IfSome};
 ghost use Rattle.buffer_word.specs.StateWord.{flag_of, state_word, IsPackable, HasSeveralFlags, HasUnusedBits};
 ghost use Rattle.buffer_word.specs.declared.state_word.State.{State};
 
