@@ -1,9 +1,9 @@
 -- What follows for every format of runs that has a reader.
-use Rattle.std.proofs.Common.{◌≡◌, ℕ, zero, suc, ◌+◌, ◌<◌, ◌≤◌, ◌⊎◌, List, [], ◌∷◌, ◌++◌, length, Result, Ok, Err, refl, sym, ap, subst, ◌∙◌, arith, append_assoc, inl, inr, length-append}
+use Rattle.std.proofs.Common.{◌≡◌, ℕ, zero, suc, ◌+◌, ◌<◌, ◌≤◌, List, [], ◌∷◌, ◌++◌, length, Result, Ok, Err, refl, sym, ap, subst, ◌∙◌, arith, append_assoc, inl, inr, length-append}
 use Rattle.std.proofs.lemmas.List.{append-nil}
 use Rattle.outside.specs.declared.run_fault.RunFault.{RunFault}
 use Rattle.outside.specs.Reading.{Reader}
-use Rattle.outside.specs.Runs.{Joined, none, one, Fewest, no_run, runs, Between, Spells, Breaks, IsReaderOf, BeginsNoOther}
+use Rattle.outside.specs.Runs.{Joined, none, one, Fewest, no_run, runs, Between, Spells, Breaks, IsReaderOf, BeginsNoOther, SpellsOrBreaks, IsDecided}
 
 abbrev pair_of : {V : Type 0} → List V × List ℕ → Result (List V × List ℕ) RunFault
 pair_of p = Ok p
@@ -98,10 +98,6 @@ module _ {V : Type 0} (Run : List ℕ → List V → Type 0) where
         let fewer : length breaks.values < count = breaks.fewer in
         absurd (omega (arith, length-append values held))
 
-    -- what is found out of a stream
-    abbrev pub SpellsOrBreaks : List ℕ → ℕ → Type 0
-    SpellsOrBreaks stream count = ((values : List V) × (rest : List ℕ) × (length values ≡ count) × Spells Run stream values rest) ⊎ ((fault : RunFault) × Breaks Run read stream count fault)
-
     by_outcome : {P : Type 0} (rest : List ℕ) (outcome : Result (List V × List ℕ) RunFault) → read rest ≡ outcome → ((values : List V) (after : List ℕ) → read rest ≡ Ok (values, after) → P) → ((fault : RunFault) → read rest ≡ Err fault → P) → P
     by_outcome rest (Ok (values, after)) e ok err = ok values after e
     by_outcome rest (Err fault) e ok err = err fault e
@@ -110,7 +106,7 @@ module _ {V : Type 0} (Run : List ℕ → List V → Type 0) where
     first_of [] h = absurd (omega arith)
     first_of (x ∷ others) h = (x, others, refl)
 
-    spells_on : (left : ℕ) (stream rest : List ℕ) (given held : List V) (count : ℕ) → Between Run stream given held rest → length given + left ≡ count → SpellsOrBreaks stream count
+    spells_on : (left : ℕ) (stream rest : List ℕ) (given held : List V) (count : ℕ) → Between Run stream given held rest → length given + left ≡ count → SpellsOrBreaks Run read stream count
     spells_on zero stream rest given held count at is = inl (given, rest, omega arith, (held, at))
     spells_on (suc left) stream rest given (x ∷ held) count at is =
         spells_on left stream rest (given ++ x ∷ []) held count (Between-give stream rest given (x ∷ []) held at) (omega (arith, length-append given (x ∷ [])))
@@ -125,5 +121,8 @@ module _ {V : Type 0} (Run : List ℕ → List V → Type 0) where
         (λ fault e. inr (fault, Between-breaks read stream rest given count fault at e (omega arith)))
 
     -- a stream spells so many values, or it breaks before them
-    pub Spells-or-breaks : (stream : List ℕ) (count : ℕ) → SpellsOrBreaks stream count
+    pub Spells-or-breaks : (stream : List ℕ) (count : ℕ) → SpellsOrBreaks Run read stream count
     Spells-or-breaks stream count = spells_on count stream stream [] [] count (Between-start stream) (omega arith)
+
+    pub decided : IsDecided Run read
+    decided = record { either = Spells-or-breaks; not_both = Spells-not-breaks }

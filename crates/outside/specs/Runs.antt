@@ -2,7 +2,7 @@
 --
 -- A format of runs is a relation `Run`, which says what bytes spell what values, with a case for each form,
 -- and a reader of one run, which says what the first fault is where no whole run stands.
-use Rattle.std.specs.Prelude.{◌≡◌, ℕ, ◌<◌, ◌≤◌, List, [], ◌++◌, length, Ok, Err}
+use Rattle.std.specs.Prelude.{◌≡◌, ℕ, ◌<◌, ◌≤◌, ◌⊎◌, List, [], ◌++◌, length, Ok, Err}
 use Rattle.outside.specs.declared.run_fault.RunFault.{RunFault}
 use Rattle.outside.specs.Reading.{Reader}
 
@@ -47,3 +47,12 @@ module _ {V : Type 0} (Run : List ℕ → List V → Type 0) where
   -- no spelling of a run is a proper front of the spelling of another
   abbrev pub BeginsNoOther : Type 0
   BeginsNoOther = (front back : List ℕ) (values others : List V) → Run front values → Run (front ++ back) others → back ≡ []
+
+  -- a stream spells so many values, or it breaks before them
+  abbrev pub SpellsOrBreaks : Reader (List V) → List ℕ → ℕ → Type 0
+  SpellsOrBreaks read stream count = ((values : List V) × (rest : List ℕ) × (length values ≡ count) × Spells stream values rest) ⊎ ((fault : RunFault) × Breaks read stream count fault)
+
+  -- of every stream one of the two holds, and never both
+  pub record IsDecided (read : Reader (List V)) : Type 0 where
+    pub either : (stream : List ℕ) (count : ℕ) → SpellsOrBreaks read stream count
+    pub not_both : (stream rest : List ℕ) (values : List V) (count : ℕ) (fault : RunFault) → Spells stream values rest → count ≤ length values → Breaks read stream count fault → ⊥
