@@ -1,0 +1,8 @@
+-- Lemmas of the pure pool, lowest first.
+pub mod Totals
+pub mod Options
+pub mod Owners
+pub mod BufferSteps
+pub mod PoolSteps
+pub mod PartsAreOwners
+pub mod Runs
