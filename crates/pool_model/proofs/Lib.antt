@@ -5,4 +5,5 @@ pub mod Owners
 pub mod BufferSteps
 pub mod PoolSteps
 pub mod PartsAreOwners
+pub mod HeldBuffers
 pub mod Runs
