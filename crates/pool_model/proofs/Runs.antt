@@ -15,7 +15,7 @@ use Rattle.pool_model.specs.declared.step.Step.TheVariants.{Grant, Ungrant, Open
 use Rattle.pool_model.specs.Block.{Within, covers}
 use Rattle.pool_model.specs.Buffer.{named, filled, published, pinned, unpinned, evicting, moving, copied, live_at}
 use Rattle.pool_model.specs.Lawful.{IsLawful, IsLawfulBuffer, HoldersFit}
-use Rattle.pool_model.specs.Laws.{EveryRunIsLawful, IsLawfulOnTheWay, IsHeld, SparesHeld, KeepsHeld, StaysAs}
+use Rattle.pool_model.specs.Laws.{EveryRunIsLawful, LawfulIsDisjoint, IsLawfulOnTheWay, IsHeld, SparesHeld, KeepsHeld, StaysAs}
 use Rattle.pool_model.specs.Parts.{Has, buffer_block, buffer_target, granted_block}
 use Rattle.pool_model.specs.Pool.{buffer_at, grant_at, block_of, HasGrant, with_buffer, total, buffer_covers, grant_covers, owners, empty_pool}
 use Rattle.pool_model.specs.Step.{IsRun, Needs, after, run}
@@ -74,3 +74,6 @@ lawful_on_the_way w (s ∷ ss) p l r =
 pub every_run_is_lawful : EveryRunIsLawful
 every_run_is_lawful w headers places steps r =
     lawful_on_the_way w steps (empty_pool headers places) (empty_lawful w headers places) r
+
+pub lawful_is_disjoint : LawfulIsDisjoint
+lawful_is_disjoint w p l m = owned_once p m (l.apart m)
