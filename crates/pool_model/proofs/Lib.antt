@@ -1,4 +1,5 @@
 -- Lemmas of the pure pool, lowest first.
+pub mod Numbers
 pub mod Totals
 pub mod Options
 pub mod Owners

@@ -7,3 +7,4 @@ pub mod Step
 pub mod Lawful
 pub mod Parts
 pub mod Laws
+pub mod Outcome

@@ -6,6 +6,8 @@
 
 mod block;
 mod buffer;
+mod buffer_steps;
+mod content;
 mod pool;
 mod sequence;
 mod setting;
@@ -16,4 +18,4 @@ pub use buffer::{Buffer, BufferKey, BufferMode, Target};
 pub use pool::{GrantedBlock, PlainPool};
 pub use sequence::Sequence;
 pub use setting::Setting;
-pub use step::Step;
+pub use step::{Step, StepFault};

@@ -1,7 +1,7 @@
-ghost use Rattle.std.specs.Prelude.{◌≡◌, [], ◌∷◌, ◌++◌, ◌<◌, length, slice_get, slice_set, OnOk, OnErr, slice_index_or};
+ghost use Rattle.std.specs.Prelude.{◌≡◌, [], ◌∷◌, ◌++◌, ◌<◌, length, slice_get, slice_set, OnOk, OnErr, slice_index_or, filter, not, ◌==◌, IfOk, replicate, None};
 ghost use Rattle.std.specs.Option.{option_copied};
 
-use std::alloc::AllocError;
+use std::alloc::{AllocError, Global};
 use std::marker::Model;
 use std::mem;
 
@@ -48,6 +48,15 @@ impl<T: Drop> Sequence<T> {
         mem::replace(&mut self.items[at], item)
     }
 
+    /// Puts an item at a place. Past the end nothing changes.
+    pub fn set(&mut self, at: usize, item: T)
+        ensures { self.new ≡ slice_set self.old at item }
+    {
+        if at < self.items.len() {
+            self.items[at] = item;
+        }
+    }
+
     /// Puts an item at the end. Where memory is wanting, nothing changes.
     pub fn push(&mut self, item: T) -> Result<(), AllocError>
         ensures ok { OnOk result (self.new ≡ self.old ++ item ∷ []) }
@@ -55,5 +64,27 @@ impl<T: Drop> Sequence<T> {
     {
         self.items.push(item)?;
         Ok(())
+    }
+}
+
+impl Sequence<u32> {
+    /// Takes out every item that equals one.
+    pub fn remove_all(&mut self, item: u32)
+        ensures { self.new ≡ filter (λ s. not (s == item)) self.old }
+    {
+        self.items.retain(|s| *s != item);
+    }
+}
+
+impl<T: Drop> Sequence<Option<T>> {
+    /// A list of that many empty places.
+    pub fn of_none(alloc: Global, len: usize) -> Result<Sequence<Option<T>>, AllocError>
+        ensures { IfOk result (λ s. s ≡ replicate len None) }
+    {
+        let mut items = Vec::new(alloc);
+        for _ in 0..len {
+            items.push(None)?;
+        }
+        Ok(Sequence { items })
     }
 }

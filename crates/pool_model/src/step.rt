@@ -32,3 +32,12 @@ pub enum Step {
     /// Makes a moving buffer live where it was, and its target a grant.
     Cancel { seat: u32, header: u32 },
 }
+
+/// Why a step wasn't made.
+#[derive(Clone, Copy, Debug, PartialEq, Eq)]
+pub enum StepFault {
+    /// What the step needs isn't so.
+    Refused,
+    /// There was no memory for one more holder.
+    NoMemory,
+}
