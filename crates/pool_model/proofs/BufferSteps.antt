@@ -25,7 +25,7 @@ cells_fit setting key b h = omega arith
 pub FirstCells-set : (files : Option Files) (key : BufferKey) (cells : List ℕ) (n v : ℕ) → n < length cells → FirstCells files key cells n → IsCell files key n v → FirstCells files key (slice_set cells n v) (n + 1)
 FirstCells-set files key cells n v within before here j h bytes told =
     elim (cases_eq j n) [
-      inl same ↦ rw same (rw (get_or-set_same cells n v 0 within) (here bytes told))
+      | inl same ↦ rw same (rw (get_or-set_same cells n v 0 within) (here bytes told))
       | inr other ↦ rw (get_or-set_other cells n j v 0 other) (before j (omega arith) bytes told)
     ]
 
@@ -124,8 +124,8 @@ evicting-lawful w places seat b l idle =
       target = rw idle.0 at l.target;
       has_key = rw idle.0 at l.has_key;
       key =
-        if_each (IsKeyOf w b) (IsKeyOf w (evicting seat b)) b.key
-        (λ key e k. record { fits = k.fits; is_range = k.is_range; content = rw idle.0 at k.content }) l.key;
+          if_each (IsKeyOf w b) (IsKeyOf w (evicting seat b)) b.key
+          (λ key e k. record { fits = k.fits; is_range = k.is_range; content = rw idle.0 at k.content }) l.key;
     }
 
 pub moving-lawful : (w : Setting) (places seat : ℕ) (target : Block) (cells : List ℕ) (b : Buffer) → IsLawfulBuffer w places b → IsIdle b → IsBlock w.greatest_order places target → target.order ≡ b.block.order → AreCellsOf w target cells → IsLawfulBuffer w places (moving seat target cells b)
@@ -138,8 +138,8 @@ moving-lawful w places seat target cells b l idle is_block same_order all_cells 
       target = record { is_block = is_block; same_order = same_order; all_cells = all_cells };
       has_key = rw idle.0 at l.has_key;
       key =
-        if_each (IsKeyOf w b) (IsKeyOf w (moving seat target cells b)) b.key
-        (λ key e k.
+          if_each (IsKeyOf w b) (IsKeyOf w (moving seat target cells b)) b.key
+          (λ key e k.
           record {
             fits = k.fits;
             is_range = k.is_range;
@@ -166,14 +166,14 @@ copied-lawful w places seat b l can =
       target = rw (can.0, found.1) (record { is_block = found.2.is_block; same_order = found.2.same_order; all_cells = rw length-set found.2.all_cells });
       has_key = rw (can.0, next.1) refl;
       key =
-        rw next.1
-        (record {
-          fits = keyed.fits;
-          is_range = keyed.is_range;
-          content =
-            rw (can.0, found.1)
-            (whole.0, FirstCells-set w.files key t.cells b.done (slice_index b.cells b.done) within before (whole.0 b.done next.2));
-        });
+          rw next.1
+          (record {
+            fits = keyed.fits;
+            is_range = keyed.is_range;
+            content =
+                rw (can.0, found.1)
+                (whole.0, FirstCells-set w.files key t.cells b.done (slice_index b.cells b.done) within before (whole.0 b.done next.2));
+          });
     }
 
 pub settled-lawful : (w : Setting) (places seat : ℕ) (b : Buffer) (t : Target) → IsLawfulBuffer w places b → CanSettle seat b → b.target ≡ Some t → IsLawfulBuffer w places (live_at t.block t.cells b)
@@ -205,8 +205,8 @@ cancelled-lawful w places seat b l can =
       target = refl;
       has_key = rw can.0 at l.has_key;
       key =
-        if_each (IsKeyOf w b) (IsKeyOf w (live_at b.block b.cells b)) b.key
-        (λ key e k.
+          if_each (IsKeyOf w b) (IsKeyOf w (live_at b.block b.cells b)) b.key
+          (λ key e k.
           record {
             fits = k.fits;
             is_range = k.is_range;

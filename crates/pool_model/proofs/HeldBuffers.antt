@@ -119,7 +119,7 @@ step_spares w (Release seat other) p l needs header m held a takes =
     spares_block w p header other m l held (taken_unheld w (Release seat other) p l needs) a takes
 step_spares w (BeginMove seat other target cells) p l needs header m held a takes =
     elim takes [
-      inl b ↦ spares_block w p header other m l held (taken_unheld w (BeginMove seat other target cells) p l needs) a b
+      | inl b ↦ spares_block w p header other m l held (taken_unheld w (BeginMove seat other target cells) p l needs) a b
       | inr t ↦ spares_grant w p header m seat target l needs.1 a t
     ]
 step_spares w (Copy seat other) p l needs header m held a takes =
@@ -152,11 +152,11 @@ other_changes p header other b o e s ne =
 holders_change : (p : PlainPool) (header other : ℕ) (b : Buffer) (change : Buffer → Buffer) → buffer_at p header ≡ Some b → StaysAs b b → StaysAs b (change b) → IsSomeAnd (get_or (set p.buffers other (option_map change (buffer_at p other))) header None) (StaysAs b)
 holders_change p header other b change e s t =
     elim (cases_eq header other) [
-      inr ne ↦ other_changes p header other b _ e s ne
+      | inr ne ↦ other_changes p header other b _ e s ne
       | inl same ↦
-        let below = header_below p header b e in
-        let here = get_or-set_same p.buffers header (option_map change (buffer_at p header)) None below in
-        rw (← same) (some_and (StaysAs b) _ (change b) (here ∙ ap (option_map change) e) t)
+          let below = header_below p header b e in
+          let here = get_or-set_same p.buffers header (option_map change (buffer_at p header)) None below in
+          rw (← same) (some_and (StaysAs b) _ (change b) (here ∙ ap (option_map change) e) t)
     ]
 
 unheld_new : (w : Setting) (p : PlainPool) (header : ℕ) (P : Buffer → Type 0) → IsLawful w p → ((b : Buffer) → P b → b.mode ≡ New) → IsSomeAnd (buffer_at p header) P → IsUnheld p header
@@ -202,7 +202,7 @@ step_keeps_held w (Release seat other) p l needs header b e held =
     let found = value_of _ (buffer_at p other) needs in
     rw found.1
     (other_changes p header other b None e (stays w p header b l e held)
-      (apart p header other b e held (taken_unheld w (Release seat other) p l needs)))
+    (apart p header other b e held (taken_unheld w (Release seat other) p l needs)))
 step_keeps_held w (BeginMove seat other target cells) p l needs header b e held =
     other_changes p header other b _ e (stays w p header b l e held)
     (apart p header other b e held (taken_unheld w (BeginMove seat other target cells) p l needs))
@@ -214,10 +214,10 @@ step_keeps_held w (Settle seat other) p l needs header b e held =
     let t = target_of w (length p.grants) found.0 (buffer_lawful w p other found.0 l found.1) found.2.0 in
     rw (found.1, t.1)
     (other_changes p header other b _ e (stays w p header b l e held)
-      (apart p header other b e held (taken_unheld w (Settle seat other) p l needs)))
+    (apart p header other b e held (taken_unheld w (Settle seat other) p l needs)))
 step_keeps_held w (Cancel seat other) p l needs header b e held =
     let found = value_of _ (buffer_at p other) needs in
     let t = target_of w (length p.grants) found.0 (buffer_lawful w p other found.0 l found.1) found.2.0 in
     rw (found.1, t.1)
     (other_changes p header other b _ e (stays w p header b l e held)
-      (apart p header other b e held (taken_unheld w (Cancel seat other) p l needs)))
+    (apart p header other b e held (taken_unheld w (Cancel seat other) p l needs)))

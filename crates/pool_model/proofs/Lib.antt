@@ -5,6 +5,7 @@ pub mod Options
 pub mod Owners
 pub mod BufferSteps
 pub mod PoolSteps
+pub mod ProgramSteps
 pub mod PartsAreOwners
 pub mod HeldBuffers
 pub mod Runs

@@ -6,7 +6,7 @@ use Rattle.std.proofs.lemmas.Nat.{pow_pos}
 pub pow_at_12 : (k : ℕ) → k ≤ 12 → 2 ^ k ≤ 4096
 pow_at_12 k h = pow_mono {j = 12} h
 
-pub pow_from_32 : (k : ℕ) → 32 ≤ k → 4294967296 ≤ 2 ^ k
-pow_from_32 k h = pow_mono {i = 32} h
+pub pow_from_64 : (k : ℕ) → 64 ≤ k → 18446744073709551616 ≤ 2 ^ k
+pow_from_64 k h = pow_mono {i = 64} h
 
-pub ruleset shifts = (pow_at_12, pow_from_32, pow_pos)
+pub ruleset shifts = (pow_at_12, pow_from_64, pow_pos)

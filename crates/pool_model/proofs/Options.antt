@@ -32,19 +32,19 @@ if_each P Q (Some x) f h = f x refl h
 pub if_each-set : {A : Type 0} (P : ℕ → A → Type 0) (xs : List (Option A)) (i : ℕ) (o : Option A) → IfSome o (P i) → ((k : ℕ) → IfSome (get_or xs k None) (P k)) → (k : ℕ) → IfSome (get_or (set xs i o) k None) (P k)
 if_each-set P xs i o new old k =
     elim (cases_eq k i) [
-      inl same ↦
-        elim (cases_lt i (length xs)) [
-          inl within ↦
-            let Q : Option _ → Type 0 = λ v. IfSome v (P k) in
-            let here : IfSome o (P k) = rw same new in
-            rw same (rw (get_or-set_same xs i o None within) new)
-          | inr past ↦
-            let none : get_or (set xs i o) k None ≡ None = get_or_past (set xs i o) k None (rw length-set (omega arith)) in
-            let Q : Option _ → Type 0 = λ v. IfSome v (P k) in
-            subst Q (sym none) tt
-        ]
+      | inl same ↦
+          elim (cases_lt i (length xs)) [
+            | inl within ↦
+                let Q : Option _ → Type 0 = λ v. IfSome v (P k) in
+                let here : IfSome o (P k) = rw same new in
+                rw same (rw (get_or-set_same xs i o None within) new)
+            | inr past ↦
+                let none : get_or (set xs i o) k None ≡ None = get_or_past (set xs i o) k None (rw length-set (omega arith)) in
+                let Q : Option _ → Type 0 = λ v. IfSome v (P k) in
+                subst Q (sym none) tt
+          ]
       | inr other ↦
-        let e = get_or-set_other xs i k o None other in
-        let Q : Option _ → Type 0 = λ v. IfSome v (P k) in
-        subst Q (sym e) (old k)
+          let e = get_or-set_other xs i k o None other in
+          let Q : Option _ → Type 0 = λ v. IfSome v (P k) in
+          subst Q (sym e) (old k)
     ]

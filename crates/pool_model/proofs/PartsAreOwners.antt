@@ -56,24 +56,24 @@ owners-headers : (p : PlainPool) (m j k : ℕ) → (j < length p.buffers) × (1 
 unfolding owners
 owners-headers p m j k a b once =
     elim (cases_order j k) [
-      inl same ↦ same
+      | inl same ↦ same
       | inr apart ↦
-        elim apart [
-          inl below ↦ absurd (omega (arith, a.1, b.1, total-two (buffer_covers m) p.buffers j k None below b.0))
-          | inr above ↦ absurd (omega (arith, a.1, b.1, total-two (buffer_covers m) p.buffers k j None above a.0))
-        ]
+          elim apart [
+            | inl below ↦ absurd (omega (arith, a.1, b.1, total-two (buffer_covers m) p.buffers j k None below b.0))
+            | inr above ↦ absurd (omega (arith, a.1, b.1, total-two (buffer_covers m) p.buffers k j None above a.0))
+          ]
     ]
 
 owners-places : (p : PlainPool) (m j k : ℕ) → (j < length p.grants) × (1 ≤ grant_covers m j (grant_at p j)) → (k < length p.grants) × (1 ≤ grant_covers m k (grant_at p k)) → owners p m ≤ 1 → j ≡ k
 unfolding owners
 owners-places p m j k a b once =
     elim (cases_order j k) [
-      inl same ↦ same
+      | inl same ↦ same
       | inr apart ↦
-        elim apart [
-          inl below ↦ absurd (omega (arith, a.1, b.1, total-two (grant_covers m) p.grants j k None below b.0))
-          | inr above ↦ absurd (omega (arith, a.1, b.1, total-two (grant_covers m) p.grants k j None above a.0))
-        ]
+          elim apart [
+            | inl below ↦ absurd (omega (arith, a.1, b.1, total-two (grant_covers m) p.grants j k None below b.0))
+            | inr above ↦ absurd (omega (arith, a.1, b.1, total-two (grant_covers m) p.grants k j None above a.0))
+          ]
     ]
 
 owners-mixed : (p : PlainPool) (m j k : ℕ) → (j < length p.buffers) × (1 ≤ buffer_covers m j (buffer_at p j)) → (k < length p.grants) × (1 ≤ grant_covers m k (grant_at p k)) → owners p m ≤ 1 → ⊥
@@ -136,7 +136,7 @@ buffer_within : (o : Option Buffer) (header m : ℕ) → 0 < buffer_covers m hea
 buffer_within None header m h = absurd (omega arith)
 buffer_within (Some b) header m h =
     elim (cases_lt 0 (covers b.block m)) [
-      inl here ↦ inl (block_within b.block m here)
+      | inl here ↦ inl (block_within b.block m here)
       | inr none ↦ inr (target_within b.target m (omega arith))
     ]
 
@@ -160,7 +160,7 @@ PartOf p header m = (a : Part) × Has p a m × ((a ≡ buffer_block header) ⊎ 
 part_of : (p : PlainPool) (header m : ℕ) → 0 < buffer_covers m header (buffer_at p header) → PartOf p header m
 part_of p header m h =
     elim (buffer_within (buffer_at p header) header m h) [
-      inl w ↦ (buffer_block header, w, inl refl)
+      | inl w ↦ (buffer_block header, w, inl refl)
       | inr w ↦ (buffer_target header, w, inr refl)
     ]
 
@@ -177,17 +177,17 @@ owned_by_none : (p : PlainPool) (m : ℕ) → IsUnowned p m → owners p m ≡ 0
 unfolding owners
 owned_by_none p m none =
     elim (cases_lt 0 (total (buffer_covers m) 0 p.buffers)) [
-      inl some ↦
-        let k = total-part (buffer_covers m) p.buffers None some in
-        let a = part_of p k.0 m k.2 in
-        absurd (none a.0 a.1)
+      | inl some ↦
+          let k = total-part (buffer_covers m) p.buffers None some in
+          let a = part_of p k.0 m k.2 in
+          absurd (none a.0 a.1)
       | inr clear ↦
-        elim (cases_lt 0 (total (grant_covers m) 0 p.grants)) [
-          inl some ↦
-            let k = total-part (grant_covers m) p.grants None some in
-            absurd (none (granted_block k.0) (grant_within (grant_at p k.0) k.0 m k.2))
-          | inr also ↦ omega arith
-        ]
+          elim (cases_lt 0 (total (grant_covers m) 0 p.grants)) [
+            | inl some ↦
+                let k = total-part (grant_covers m) p.grants None some in
+                absurd (none (granted_block k.0) (grant_within (grant_at p k.0) k.0 m k.2))
+            | inr also ↦ omega arith
+          ]
     ]
 
 apart_headers : (p : PlainPool) (m j k : ℕ) → IsOwnedOnce p m → j < k → 0 < buffer_covers m j (buffer_at p j) → 0 < buffer_covers m k (buffer_at p k) → ⊥
@@ -200,30 +200,30 @@ apart_headers p m j k once below a b =
 few_in_buffers : (p : PlainPool) (m : ℕ) → IsOwnedOnce p m → total (buffer_covers m) 0 p.buffers ≤ 1
 few_in_buffers p m once =
     elim (cases_lt 1 (total (buffer_covers m) 0 p.buffers)) [
-      inl many ↦
-        elim (total-parts (buffer_covers m) p.buffers None many) [
-          inl w ↦
-            let both = both_within (buffer_at p w.0) w.0 m w.2 in
-            let same : buffer_block w.0 ≡ buffer_target w.0 = once (buffer_block w.0) (buffer_target w.0) both.0 both.1 in
-            cc
-          | inr w ↦ let v = w.1 in absurd (apart_headers p m w.0 v.0 once v.1 v.3 v.4)
-        ]
+      | inl many ↦
+          elim (total-parts (buffer_covers m) p.buffers None many) [
+            | inl w ↦
+                let both = both_within (buffer_at p w.0) w.0 m w.2 in
+                let same : buffer_block w.0 ≡ buffer_target w.0 = once (buffer_block w.0) (buffer_target w.0) both.0 both.1 in
+                cc
+            | inr w ↦ let v = w.1 in absurd (apart_headers p m w.0 v.0 once v.1 v.3 v.4)
+          ]
       | inr few ↦ few
     ]
 
 few_in_grants : (p : PlainPool) (m : ℕ) → IsOwnedOnce p m → total (grant_covers m) 0 p.grants ≤ 1
 few_in_grants p m once =
     elim (cases_lt 1 (total (grant_covers m) 0 p.grants)) [
-      inl many ↦
-        elim (total-parts (grant_covers m) p.grants None many) [
-          inl w ↦ absurd (omega (arith, w.2, grant_covers-le (grant_at p w.0) w.0 m))
-          | inr w ↦
-            let v = w.1 in
-            let same : granted_block w.0 ≡ granted_block v.0 =
-              once (granted_block w.0) (granted_block v.0) (grant_within (grant_at p w.0) w.0 m v.3) (grant_within (grant_at p v.0) v.0 m v.4) in
-            let e : w.0 ≡ v.0 = cc in
-            absurd (omega (arith, e, v.1))
-        ]
+      | inl many ↦
+          elim (total-parts (grant_covers m) p.grants None many) [
+            | inl w ↦ absurd (omega (arith, w.2, grant_covers-le (grant_at p w.0) w.0 m))
+            | inr w ↦
+                let v = w.1 in
+                let same : granted_block w.0 ≡ granted_block v.0 =
+                once (granted_block w.0) (granted_block v.0) (grant_within (grant_at p w.0) w.0 m v.3) (grant_within (grant_at p v.0) v.0 m v.4) in
+                let e : w.0 ≡ v.0 = cc in
+                absurd (omega (arith, e, v.1))
+          ]
       | inr few ↦ few
     ]
 
@@ -233,17 +233,17 @@ counted_once p m once =
     let b = few_in_buffers p m once in
     let g = few_in_grants p m once in
     elim (cases_lt 0 (total (buffer_covers m) 0 p.buffers)) [
-      inl some ↦
-        elim (cases_lt 0 (total (grant_covers m) 0 p.grants)) [
-          inl also ↦
-            let j = total-part (buffer_covers m) p.buffers None some in
-            let k = total-part (grant_covers m) p.grants None also in
-            let x = part_of p j.0 m j.2 in
-            let same : x.0 ≡ granted_block k.0 =
-              once x.0 (granted_block k.0) x.1 (grant_within (grant_at p k.0) k.0 m k.2) in
-            elim x.2 [ inl e ↦ cc | inr e ↦ cc ]
-          | inr none ↦ omega arith
-        ]
+      | inl some ↦
+          elim (cases_lt 0 (total (grant_covers m) 0 p.grants)) [
+            | inl also ↦
+                let j = total-part (buffer_covers m) p.buffers None some in
+                let k = total-part (grant_covers m) p.grants None also in
+                let x = part_of p j.0 m j.2 in
+                let same : x.0 ≡ granted_block k.0 =
+                once x.0 (granted_block k.0) x.1 (grant_within (grant_at p k.0) k.0 m k.2) in
+                elim x.2 [ inl e ↦ cc | inr e ↦ cc ]
+            | inr none ↦ omega arith
+          ]
       | inr none ↦ omega arith
     ]
 

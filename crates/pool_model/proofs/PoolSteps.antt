@@ -64,10 +64,10 @@ change_keeps : (w : Setting) (p : PlainPool) (header : ℕ) (b : Buffer) (change
 change_keeps w p header b change l e good same =
     rw e
     (keeps_buffer w p header (Some (change b)) l good
-      (λ m.
-        let count = owners-set_buffer p header (Some (change b)) m (header_below p header b e) in
-        let old = ap (buffer_covers m header) e in
-        omega (arith, count, old, same m, l.apart m)))
+    (λ m.
+    let count = owners-set_buffer p header (Some (change b)) m (header_below p header b e) in
+    let old = ap (buffer_covers m header) e in
+    omega (arith, count, old, same m, l.apart m)))
 
 -- a step that turns part of a buffer into a grant
 gives_keeps : (w : Setting) (p : PlainPool) (header : ℕ) (b : Buffer) (o : Option Buffer) (seat : ℕ) (given : Block) → IsLawful w p → buffer_at p header ≡ Some b → IfSome o (IsLawfulBuffer w (length p.grants)) → IsBlock w.greatest_order (length p.grants) given → ((m : ℕ) → buffer_covers m header o + covers given m ≤ buffer_covers m header (Some b)) → IsLawful w (with_grant seat given (with_buffer header o p))
@@ -75,36 +75,36 @@ gives_keeps w p header b o seat given l e good is_block parts =
     let g : GrantedBlock = record { order = given.order; owner = seat } in
     keeps_both w p header o given.place (Some g) l good is_block
     (λ m.
-      let count = owners-set_both p header o given.place (Some g) m (header_below p header b e) (place_of_block (length p.grants) given is_block.inside) in
-      let old = ap (buffer_covers m header) e in
-      omega (arith, count, old, parts m, l.apart m))
+    let count = owners-set_both p header o given.place (Some g) m (header_below p header b e) (place_of_block (length p.grants) given is_block.inside) in
+    let old = ap (buffer_covers m header) e in
+    omega (arith, count, old, parts m, l.apart m))
 
 -- a step that turns a grant into part of a buffer
 takes_keeps : (w : Setting) (p : PlainPool) (header : ℕ) (o : Option Buffer) (seat : ℕ) (taken : Block) → IsLawful w p → header < length p.buffers → HasGrant p seat taken → IfSome o (IsLawfulBuffer w (length p.grants)) → ((m : ℕ) → buffer_covers m header o ≤ buffer_covers m header (buffer_at p header) + covers taken m) → IsLawful w (without_grant taken (with_buffer header o p))
 takes_keeps w p header o seat taken l below e good parts =
     keeps_both w p header o taken.place None l good tt
     (λ m.
-      let count = owners-set_both p header o taken.place None m below (place_below p taken.place _ e) in
-      let old = ap (grant_covers m taken.place) e in
-      omega (arith, count, old, parts m, l.apart m))
+    let count = owners-set_both p header o taken.place None m below (place_below p taken.place _ e) in
+    let old = ap (grant_covers m taken.place) e in
+    omega (arith, count, old, parts m, l.apart m))
 
 Grant-keeps : (w : Setting) (p : PlainPool) (seat : ℕ) (b : Block) → IsLawful w p → IsBlock w.greatest_order (length p.grants) b → IsFree p b → IsLawful w (with_grant seat b p)
 Grant-keeps w p seat b l is_block free =
     let g : GrantedBlock = record { order = b.order; owner = seat } in
     keeps_grant w p b.place (Some g) l is_block
     (λ m.
-      let count = owners-set_grant p b.place (Some g) m (place_of_block (length p.grants) b is_block.inside) in
-      elim (covers_cases b m) [
-        inl in_it ↦ omega (arith, count, in_it.0, free m in_it.1)
-        | inr out ↦ omega (arith, count, out.0, l.apart m)
-      ])
+    let count = owners-set_grant p b.place (Some g) m (place_of_block (length p.grants) b is_block.inside) in
+    elim (covers_cases b m) [
+      | inl in_it ↦ omega (arith, count, in_it.0, free m in_it.1)
+      | inr out ↦ omega (arith, count, out.0, l.apart m)
+    ])
 
 Ungrant-keeps : (w : Setting) (p : PlainPool) (seat : ℕ) (b : Block) → IsLawful w p → HasGrant p seat b → IsLawful w (without_grant b p)
 Ungrant-keeps w p seat b l e =
     keeps_grant w p b.place None l tt
     (λ m.
-      let count = owners-set_grant p b.place None m (place_below p b.place _ e) in
-      omega (arith, count, l.apart m))
+    let count = owners-set_grant p b.place None m (place_below p b.place _ e) in
+    omega (arith, count, l.apart m))
 
 Open-keeps : (w : Setting) (p : PlainPool) (seat header : ℕ) (b : Block) (cells : List ℕ) → IsLawful w p → IsReleased p header → HasGrant p seat b → AreCellsOf w b cells → IsLawful w (after (Open seat header b cells) p)
 Open-keeps w p seat header b cells l released e all_cells =
@@ -123,24 +123,24 @@ BeginMove-keeps w p seat header target cells b l e idle same_order granted all_c
     let good = buffer_lawful w p header b l e in
     rw e
     (takes_keeps w p header (Some (moving seat target cells b)) seat target l (header_below p header b e) granted
-      (moving-lawful w (length p.grants) seat target cells b good idle (grant_lawful w p seat target l granted) same_order all_cells)
-      (λ m. omega (arith, ap (buffer_covers m header) e)))
+    (moving-lawful w (length p.grants) seat target cells b good idle (grant_lawful w p seat target l granted) same_order all_cells)
+    (λ m. omega (arith, ap (buffer_covers m header) e)))
 
 Settle-keeps : (w : Setting) (p : PlainPool) (seat header : ℕ) (b : Buffer) (t : Target) → IsLawful w p → buffer_at p header ≡ Some b → b.target ≡ Some t → CanSettle seat b → IsLawful w (after (Settle seat header) p)
 Settle-keeps w p seat header b t l e at_target can =
     let good = buffer_lawful w p header b l e in
     rw (e, at_target)
     (gives_keeps w p header b (Some (live_at t.block t.cells b)) seat b.block l e
-      (settled-lawful w (length p.grants) seat b t good can at_target) good.is_block
-      (λ m. omega (arith, ap (target_covers m) at_target)))
+    (settled-lawful w (length p.grants) seat b t good can at_target) good.is_block
+    (λ m. omega (arith, ap (target_covers m) at_target)))
 
 Cancel-keeps : (w : Setting) (p : PlainPool) (seat header : ℕ) (b : Buffer) (t : Target) → IsLawful w p → buffer_at p header ≡ Some b → b.target ≡ Some t → CanCancel seat b → IsBlock w.greatest_order (length p.grants) t.block → IsLawful w (after (Cancel seat header) p)
 Cancel-keeps w p seat header b t l e at_target can is_block =
     let good = buffer_lawful w p header b l e in
     rw (e, at_target)
     (gives_keeps w p header b (Some (live_at b.block b.cells b)) seat t.block l e
-      (cancelled-lawful w (length p.grants) seat b good can) is_block
-      (λ m. omega (arith, ap (target_covers m) at_target)))
+    (cancelled-lawful w (length p.grants) seat b good can) is_block
+    (λ m. omega (arith, ap (target_covers m) at_target)))
 
 -- the target of a moving buffer
 pub target_of : (w : Setting) (places : ℕ) (b : Buffer) → IsLawfulBuffer w places b → b.mode ≡ Moving → (t : Target) × (b.target ≡ Some t) × IsTarget w places b.block t

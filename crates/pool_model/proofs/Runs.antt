@@ -23,7 +23,6 @@ use Rattle.pool_model.proofs.Owners.{header_below}
 use Rattle.pool_model.proofs.PoolSteps.{step_keeps, buffer_lawful, target_of}
 use Rattle.pool_model.proofs.Options.{value_of, at_value, some_and}
 use Rattle.pool_model.proofs.PartsAreOwners.{owners-part, owned_once}
-
 use Rattle.pool_model.proofs.HeldBuffers.{step_spares, step_keeps_held}
 
 -- a run from a lawful pool leads to one
@@ -59,11 +58,10 @@ unfolding owners
 empty_lawful w headers places =
     record {
       apart =
-        λ m. omega (arith, total-none (buffer_covers m) 0 headers (λ k. refl), total-none (grant_covers m) 0 places (λ k. refl));
+          λ m. omega (arith, total-none (buffer_covers m) 0 headers (λ k. refl), total-none (grant_covers m) 0 places (λ k. refl));
       buffers = λ header. if_none _ _ (get_or-none headers header);
       grants = λ place. if_none _ _ (get_or-none places place);
     }
-
 
 -- from a lawful pool on, each pool on the way is lawful, and held buffers are left alone
 pub lawful_on_the_way : (w : Setting) (ss : List Step) (p : PlainPool) → IsLawful w p → IsRun w ss p → IsLawfulOnTheWay w ss p

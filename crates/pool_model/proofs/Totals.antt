@@ -47,11 +47,11 @@ pub total-part_from : {A : Type 0} (f : ℕ → A → ℕ) (i : ℕ) (xs : List 
 total-part_from f i [] d h = absurd (omega arith)
 total-part_from f i (x ∷ xs) d h =
     elim (cases_lt 0 (f i x)) [
-      inl here ↦ (0, omega arith, rw add-zero here)
+      | inl here ↦ (0, omega arith, rw add-zero here)
       | inr none ↦
-        let rest = total-part_from f (i + 1) xs d (omega arith) in
-        let e : i + suc rest.0 ≡ i + 1 + rest.0 = omega arith in
-        (suc rest.0, omega (arith, rest.1), rw e rest.2)
+          let rest = total-part_from f (i + 1) xs d (omega arith) in
+          let e : i + suc rest.0 ≡ i + 1 + rest.0 = omega arith in
+          (suc rest.0, omega (arith, rest.1), rw e rest.2)
     ]
 
 pub total-part : {A : Type 0} (f : ℕ → A → ℕ) (xs : List A) (d : A) → 0 < total f 0 xs → (k : ℕ) × (k < length xs) × (0 < f k (get_or xs k d))
@@ -64,30 +64,38 @@ pub total-parts_from : {A : Type 0} (f : ℕ → A → ℕ) (i : ℕ) (xs : List
 total-parts_from f i [] d h = absurd (omega arith)
 total-parts_from f i (x ∷ xs) d h =
     elim (cases_lt 1 (f i x)) [
-      inl both ↦ inl (0, omega arith, rw add-zero both)
+      | inl both ↦ inl (0, omega arith, rw add-zero both)
       | inr few ↦
-        elim (cases_lt 0 (f i x)) [
-          inl one ↦
-            let rest = total-part_from f (i + 1) xs d (omega arith) in
-            let e : i + suc rest.0 ≡ i + 1 + rest.0 = omega arith in
-            inr (0, (suc rest.0, omega arith, omega (arith, rest.1), rw add-zero one, rw e rest.2))
-          | inr none ↦
-            elim (total-parts_from f (i + 1) xs d (omega arith)) [
-              inl w ↦
-                let e : i + suc w.0 ≡ i + 1 + w.0 = omega arith in
-                inl (suc w.0, omega (arith, w.1), rw e w.2)
-              | inr w ↦
-                let v = w.1 in
-                let e : i + suc w.0 ≡ i + 1 + w.0 = omega arith in
-                let g : i + suc v.0 ≡ i + 1 + v.0 = omega arith in
-                inr (suc w.0, (suc v.0, omega (arith, v.1), omega (arith, v.2), rw e v.3, rw g v.4))
-            ]
-        ]
+          elim (cases_lt 0 (f i x)) [
+            | inl one ↦
+                let rest = total-part_from f (i + 1) xs d (omega arith) in
+                let e : i + suc rest.0 ≡ i + 1 + rest.0 = omega arith in
+                inr (0, (suc rest.0, omega arith, omega (arith, rest.1), rw add-zero one, rw e rest.2))
+            | inr none ↦
+                elim (total-parts_from f (i + 1) xs d (omega arith)) [
+                  | inl w ↦
+                      let e : i + suc w.0 ≡ i + 1 + w.0 = omega arith in
+                      inl (suc w.0, omega (arith, w.1), rw e w.2)
+                  | inr w ↦
+                      let v = w.1 in
+                      let e : i + suc w.0 ≡ i + 1 + w.0 = omega arith in
+                      let g : i + suc v.0 ≡ i + 1 + v.0 = omega arith in
+                      inr (suc w.0, (suc v.0, omega (arith, v.1), omega (arith, v.2), rw e v.3, rw g v.4))
+                ]
+          ]
     ]
 
 pub total-parts : {A : Type 0} (f : ℕ → A → ℕ) (xs : List A) (d : A) → 1 < total f 0 xs → ((k : ℕ) × (k < length xs) × (1 < f k (get_or xs k d))) ⊎ ((j : ℕ) × ((k : ℕ) × (j < k) × (k < length xs) × (0 < f j (get_or xs j d)) × (0 < f k (get_or xs k d))))
 total-parts f xs d h =
     elim (total-parts_from f 0 xs d h) [
-      inl w ↦ inl (w.0, w.1, rw zero-add at w.2)
+      | inl w ↦ inl (w.0, w.1, rw zero-add at w.2)
       | inr w ↦ let v = w.1 in inr (w.0, (v.0, v.1, v.2, rw zero-add at v.3, rw zero-add at v.4))
+    ]
+
+-- a sum is 0 where each part is
+pub total-zero : {A : Type 0} (f : ℕ → A → ℕ) (xs : List A) (d : A) → ((k : ℕ) → k < length xs → f k (get_or xs k d) ≡ 0) → total f 0 xs ≡ 0
+total-zero f xs d h =
+    elim (cases_lt 0 (total f 0 xs)) [
+      | inl some ↦ let part = total-part f xs d some in absurd (omega (arith, h part.0 part.1, part.2))
+      | inr none ↦ omega arith
     ]

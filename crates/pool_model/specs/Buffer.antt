@@ -71,7 +71,7 @@ CanUnpin seat b = Holds seat b.holders
 abbrev pub unpinned : ℕ → Buffer → Buffer
 unpinned seat b = record b { holders = filter (λ s. not (s == seat)) b.holders }
 
--- of BeginEvict and of BeginMove
+-- live, and nobody holds it
 abbrev pub IsIdle : Buffer → Type 0
 IsIdle b = (b.mode ≡ Live) × (b.holders ≡ [])
 
@@ -80,6 +80,9 @@ evicting seat b = record b { mode = Evicted; claimant = Some seat }
 
 abbrev pub CanRelease : ℕ → Buffer → Type 0
 CanRelease seat b = (b.mode ≡ Evicted) × Claimed seat b
+
+abbrev pub CanMove : Block → Buffer → Type 0
+CanMove target b = IsIdle b × (target.order ≡ b.block.order)
 
 abbrev pub moving : ℕ → Block → List ℕ → Buffer → Buffer
 moving seat block cells b =

@@ -79,4 +79,4 @@ pub record IsLawful (setting : Setting) (pool : PlainPool) : Type 0 where
   pub apart : (m : ℕ) → owners pool m ≤ 1
   pub buffers : (header : ℕ) → IfSome (buffer_at pool header) (IsLawfulBuffer setting (length pool.grants))
   pub grants : (place : ℕ) →
-    IfSome (grant_at pool place) (λ g. IsBlock setting.greatest_order (length pool.grants) (block_of place g))
+      IfSome (grant_at pool place) (λ g. IsBlock setting.greatest_order (length pool.grants) (block_of place g))

@@ -8,7 +8,7 @@ use Rattle.pool_model.specs.declared.setting.Setting.{Setting}
 use Rattle.pool_model.specs.declared.step.Step.{Step}
 use Rattle.pool_model.specs.declared.step.Step.TheVariants.{Grant, Ungrant, Open, Name, Fill, Publish, Pin, Unpin, BeginEvict, Release, BeginMove, Copy, Settle, Cancel}
 use Rattle.pool_model.specs.Block.{IsBlock, Within}
-use Rattle.pool_model.specs.Buffer.{AreCellsOf, opened, CanName, named, CanFill, filled, CanPublish, published, CanPin, pinned, CanUnpin, unpinned, IsIdle, evicting, CanRelease, moving, CanCopy, copied, CanSettle, live_at, CanCancel}
+use Rattle.pool_model.specs.Buffer.{AreCellsOf, opened, CanName, named, CanFill, filled, CanPublish, published, CanPin, pinned, CanUnpin, unpinned, IsIdle, evicting, CanRelease, CanMove, moving, CanCopy, copied, CanSettle, live_at, CanCancel}
 use Rattle.pool_model.specs.Pool.{buffer_at, HasGrant, with_buffer, with_grant, without_grant, owners}
 
 -- no block, target or grant has a minimum block of this one
@@ -32,7 +32,7 @@ Needs w (Unpin seat header) p = IsSomeAnd (buffer_at p header) (CanUnpin seat)
 Needs w (BeginEvict seat header) p = IsSomeAnd (buffer_at p header) IsIdle
 Needs w (Release seat header) p = IsSomeAnd (buffer_at p header) (CanRelease seat)
 Needs w (BeginMove seat header target cells) p =
-    IsSomeAnd (buffer_at p header) (λ (b : Buffer). IsIdle b × (target.order ≡ b.block.order)) × HasGrant p seat target × AreCellsOf w target cells
+    IsSomeAnd (buffer_at p header) (CanMove target) × HasGrant p seat target × AreCellsOf w target cells
 Needs w (Copy seat header) p = IsSomeAnd (buffer_at p header) (CanCopy seat)
 Needs w (Settle seat header) p = IsSomeAnd (buffer_at p header) (CanSettle seat)
 Needs w (Cancel seat header) p = IsSomeAnd (buffer_at p header) (CanCancel seat)

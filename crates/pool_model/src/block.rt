@@ -1,3 +1,5 @@
+ghost use Rattle.std.specs.Prelude.{◌↔◌, ◌+◌, ◌^◌, ◌<◌, ◌≤◌, IsTrue};
+
 use crate::Setting;
 
 /// A block: the `2^order` minimum blocks from `place` on, counted over all arenas.
@@ -8,15 +10,16 @@ pub struct Block {
 }
 
 impl Block {
-    ghost use Rattle.std.specs.Prelude.{◌≡◌, ◌↔◌, ◌≤◌, IsTrue};
-    ghost use Rattle.pool_model.specs.Block.{Within, IsBlock, bytes_in, cells_for};
+    ghost use Rattle.std.specs.Prelude.{◌≡◌, ◌↔◌, ◌<◌, ◌≤◌, IsTrue};
+    ghost use Rattle.pool_model.specs.Block.{Within, IsBlock, covers, bytes_in, cells_for};
 
     /// Whether a minimum block is one of the block's.
-    #[tactic(auto, using(crate::proofs::Numbers::shifts))]
-    pub fn has(&self, place: u32) -> bool
-        ensures { IsTrue result ↔ Within self.now place }
+    #[tactic(auto, using(crate::proofs::Owners::covers_counts))]
+    pub fn has(&self, place: u64) -> bool
+        ensures within { IsTrue result ↔ Within self.now place }
+        ensures counted { IsTrue result ↔ (0 < covers self.now place) }
     {
-        self.place <= place && (self.order >= 32 || place - self.place < 1 << self.order)
+        spans(u64::from(self.place), self.order, place)
     }
 
     /// Whether a pool of that setting, with that many places, may have the block.
@@ -49,4 +52,12 @@ impl Block {
     {
         (self.bytes(min_block) + 7) / 8
     }
+}
+
+/// Whether a place is among the `2^order` from the first on.
+#[tactic(auto, using(crate::proofs::Numbers::shifts))]
+pub fn spans(first: u64, order: u32, place: u64) -> bool
+    ensures { IsTrue result ↔ ((first ≤ place) × (place < first + 2 ^ order)) }
+{
+    first <= place && (order >= 64 || place - first < 1 << order)
 }

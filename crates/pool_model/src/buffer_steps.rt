@@ -1,8 +1,7 @@
 //! The steps on one buffer. Each is made, or refused where what it needs isn't so.
 
-use std::alloc::Global;
-
 use crate::{Block, Buffer, BufferKey, BufferMode, Sequence, Setting, StepFault, Target};
+use std::alloc::Global;
 
 impl BufferKey {
     ghost use Rattle.std.specs.Prelude.{◌≡◌, ◌<◌};
@@ -19,9 +18,9 @@ impl BufferKey {
 }
 
 impl Buffer {
-    ghost use Rattle.std.specs.Prelude.{◌≡◌, ◌↔◌, ◌+◌, ◌<◌, ◌≤◌, [], IsTrue, slice_index};
+    ghost use Rattle.std.specs.Prelude.{◌≡◌, ◌↔◌, ◌+◌, ◌<◌, ◌≤◌, [], IsTrue, IsSome, IfSome, slice_index};
     ghost use Rattle.pool_model.specs.declared.buffer.BufferMode.TheVariants.{New, Live, Moving, Evicted};
-    ghost use Rattle.pool_model.specs.Buffer.{Claimed, Holds, HasNext, IsDone, IsIdle, CanName, named, CanFill, filled, CanPublish, published, CanPin, pinned, CanUnpin, unpinned, evicting, moving, CanRelease, CanCopy, copied, CanSettle, CanCancel, opened, live_at};
+    ghost use Rattle.pool_model.specs.Buffer.{Claimed, Holds, HasNext, IsDone, IsIdle, CanName, named, CanFill, filled, CanPublish, published, CanPin, pinned, CanUnpin, unpinned, evicting, CanMove, moving, CanRelease, CanCopy, copied, CanSettle, CanCancel, opened, live_at};
     ghost use Rattle.pool_model.specs.Outcome.{Outcome};
 
     /// A new buffer, which its claimant may name.
@@ -165,6 +164,13 @@ impl Buffer {
         Ok(())
     }
 
+    /// Whether the buffer is idle and the target of its order.
+    pub fn can_move(&self, target: Block) -> bool
+        ensures { IsTrue result ↔ CanMove target self.now }
+    {
+        self.is_idle() && target.order == self.block.order
+    }
+
     /// Moves an idle buffer to a target.
     pub fn begin_move(&mut self, seat: u32, block: Block, cells: Sequence<u64>)
         ensures { self.new ≡ moving seat block cells self.old }
@@ -196,7 +202,11 @@ impl Buffer {
     {
         let cells = self.cells.as_slice();
         let number = number as usize;
-        if number < cells.len() { cells[number] } else { 0 }
+        if number < cells.len() {
+            cells[number]
+        } else {
+            0
+        }
     }
 
     /// Whether the seat may release the buffer's block.
@@ -218,5 +228,35 @@ impl Buffer {
         ensures { IsTrue result ↔ CanCancel seat self.now }
     {
         self.is_claimed(BufferMode::Moving, seat)
+    }
+
+    /// Makes a moving buffer live at its target.
+    pub fn settle(&mut self)
+        requires { IsSome self.old.target }
+        ensures { IfSome self.old.target (λ t. self.new ≡ live_at t.block t.cells self.old) }
+    {
+        if let Some(target) = self.target.take() {
+            let Target { block, cells } = target;
+            self.block = block;
+            self.cells = cells;
+            self.mode = BufferMode::Live;
+            self.claimant = None;
+        }
+    }
+
+    /// Makes a moving buffer live where it is, and gives back its target's block.
+    pub fn cancel(&mut self) -> Block
+        requires { IsSome self.old.target }
+        ensures target { IfSome self.old.target (λ t. result ≡ t.block) }
+        ensures live { self.new ≡ live_at self.old.block self.old.cells self.old }
+    {
+        let block = match &self.target {
+            Some(target) => target.block,
+            None => self.block,
+        };
+        self.target = None;
+        self.mode = BufferMode::Live;
+        self.claimant = None;
+        block
     }
 }

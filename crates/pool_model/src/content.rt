@@ -21,7 +21,11 @@ fn range_at(bytes: &[u8], at: u64, len: u32) -> &[u8]
 fn byte_at(bytes: &[u8], at: u64) -> u8
     ensures { result ≡ slice_index bytes.now at }
 {
-    if at < bytes.len() as u64 { bytes[at as usize] } else { 0 }
+    if at < bytes.len() as u64 {
+        bytes[at as usize]
+    } else {
+        0
+    }
 }
 
 /// A cell of a key's content: eight bytes of the range, little endian, and zero past its end.

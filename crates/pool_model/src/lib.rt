@@ -4,10 +4,12 @@
 //! `specs/` has the definitions; `PlainPool::apply` is the same machine as a program.
 #![tactic(auto)]
 
+mod apply;
 mod block;
 mod buffer;
 mod buffer_steps;
 mod content;
+mod owned;
 mod pool;
 mod sequence;
 mod setting;

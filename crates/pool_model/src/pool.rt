@@ -1,6 +1,5 @@
-use std::alloc::{AllocError, Global};
-
 use crate::{Block, Buffer, Sequence};
+use std::alloc::{AllocError, Global};
 
 /// What is granted at a place: the order of the block that begins there, and the seat that has it.
 #[derive(Clone, Copy, Debug, PartialEq, Eq)]
@@ -20,10 +19,13 @@ impl PlainPool {
     ghost use Rattle.std.specs.Prelude.{◌≡◌, ◌↔◌, IfOk, IsTrue, length};
     ghost use Rattle.pool_model.specs.Pool.{empty_pool, buffer_at, grant_at, HasGrant, with_buffer, with_grant, without_grant};
     ghost use Rattle.pool_model.specs.Step.{IsReleased};
+    ghost use Rattle.pool_model.specs.Lawful.{IsLawful};
+    ghost use Rattle.pool_model.specs.declared.setting.Setting.{Setting};
 
     /// A pool with no buffer and no grant.
     pub fn empty(alloc: Global, headers: usize, places: usize) -> Result<PlainPool, AllocError>
-        ensures { IfOk result (λ p. p ≡ empty_pool headers places) }
+        ensures empty { IfOk result (λ p. p ≡ empty_pool headers places) }
+        ensures lawful { IfOk result (λ p. (w : Setting) → IsLawful w p) }
     {
         Ok(PlainPool {
             buffers: Sequence::of_none(alloc, headers)?,

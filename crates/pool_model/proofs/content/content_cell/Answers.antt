@@ -27,5 +27,5 @@ returns c =
     let at6 : get_or ys 6 0 ≡ c.byte_at-7.result = behind xs first 6 _ _ (omega arith) c.byte_at-7.ensures in
     let at7 : get_or ys 7 0 ≡ c.byte_at-8.result = behind xs first 7 _ _ (omega arith) c.byte_at-8.ensures in
     c.from_le_bytes.ensures
-      ∙ eight_bytes ys _ _ _ _ _ _ _ _ at0 at1 at2 at3 at4 at5 at6 at7
-      ∙ ap (λ r. from_le_bytes w64 (drop first r)) c.range_at-range.ensures
+    ∙ eight_bytes ys _ _ _ _ _ _ _ _ at0 at1 at2 at3 at4 at5 at6 at7
+    ∙ ap (λ r. from_le_bytes w64 (drop first r)) c.range_at-range.ensures
