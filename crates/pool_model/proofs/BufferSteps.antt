@@ -1,6 +1,6 @@
 -- Each step on one buffer keeps it lawful.
-use Rattle.std.proofs.Common.{◌≡◌, ℕ, ◌+◌, ◌*◌, ◌^◌, ◌<◌, ◌≤◌, List, [], length, get_or, set, refl, arith, ap, subst, sym, inl, inr, rules}
-use Rattle.std.specs.Prelude.{Bool, filter, ◌∷◌, ◌++◌, not, ◌==◌, Option, None, Some, IsSome, IsSomeAnd, IfSome, slice_index, slice_set, option_map}
+use Rattle.std.proofs.Common.{◌≡◌, ℕ, ◌+◌, ◌*◌, ◌^◌, ◌<◌, ◌≤◌, List, [], length, refl, arith, ap, inl, inr}
+use Rattle.std.specs.Prelude.{Bool, filter, ◌∷◌, ◌++◌, not, ◌==◌, Option, Some, IsSomeAnd, IfSome, slice_index, slice_set}
 use Rattle.std.proofs.lemmas.Bool.{cases_eq}
 use Rattle.std.proofs.lemmas.List.{get_or-set_same, get_or-set_other, length-set}
 use Rattle.pool_model.specs.declared.block.Block.{Block}
@@ -11,10 +11,10 @@ use Rattle.pool_model.specs.declared.buffer.BufferMode.TheVariants.{New, Live, M
 use Rattle.pool_model.specs.declared.buffer.Target.{Target}
 use Rattle.pool_model.specs.declared.setting.Setting.{Setting}
 use Rattle.pool_model.specs.Block.{IsBlock, cells_for, bytes_in}
-use Rattle.pool_model.specs.Buffer.{AreCellsOf, Fits, IsIdle, IsDone, HasNext, opened, CanName, named, CanFill, filled, CanPublish, published, CanPin, pinned, CanUnpin, unpinned, evicting, moving, CanCopy, copied, copied_to, CanSettle, live_at, CanCancel}
-use Rattle.pool_model.specs.Content.{Files, IsRange, IsCell, FirstCells, cells_of}
-use Rattle.pool_model.specs.Lawful.{HoldersFit, ClaimFits, TargetFits, IsTarget, HasKey, HoldsContent, IsKeyOf, IsLawfulBuffer}
-use Rattle.pool_model.proofs.Options.{value_of, at_value, if_value, some_and, is_some_and, if_each}
+use Rattle.pool_model.specs.Buffer.{AreCellsOf, Fits, IsIdle, opened, CanName, named, CanFill, filled, CanPublish, published, CanPin, pinned, unpinned, evicting, moving, CanCopy, copied, CanSettle, live_at, CanCancel}
+use Rattle.pool_model.specs.Content.{Files, IsCell, FirstCells, cells_of}
+use Rattle.pool_model.specs.Lawful.{HoldersFit, IsTarget, HoldsContent, IsKeyOf, IsLawfulBuffer}
+use Rattle.pool_model.proofs.Options.{value_of, at_value, if_value, if_each}
 
 -- a key that fits a block has no more cells than the block
 pub cells_fit : (setting : Setting) (key : BufferKey) (b : Block) → Fits setting key b → cells_of key ≤ cells_for (bytes_in setting.min_block b)

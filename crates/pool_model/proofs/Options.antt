@@ -1,5 +1,5 @@
 -- What holds of the value in an option, if it has one; lists of options by index.
-use Rattle.std.proofs.Common.{◌≡◌, ℕ, ◌<◌, ◌≤◌, List, length, get_or, set, refl, arith, subst, sym, inl, inr, ◌∙◌}
+use Rattle.std.proofs.Common.{◌≡◌, ℕ, List, length, get_or, set, refl, arith, subst, sym, inl, inr}
 use Rattle.std.specs.Prelude.{Option, None, Some, IsSome, IsSomeAnd, IfSome}
 use Rattle.std.proofs.lemmas.Bool.{cases_eq, cases_lt}
 use Rattle.std.proofs.lemmas.List.{get_or-set_same, get_or-set_other, get_or_past, length-set}

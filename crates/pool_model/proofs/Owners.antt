@@ -1,8 +1,7 @@
 -- How many own a minimum block: `owners` through a change of the pool.
-use Rattle.std.proofs.Common.{◌≡◌, ℕ, ◌+◌, ◌*◌, ◌^◌, ◌<◌, ◌≤◌, List, length, get_or, set, zero, suc, refl, ap, arith, inl, inr, ◌⊎◌, ◌↔◌, IsTrue, Bool, cond, leb, ltb, ◌&&◌}
+use Rattle.std.proofs.Common.{◌≡◌, ℕ, ◌+◌, ◌^◌, ◌<◌, ◌≤◌, List, length, get_or, set, refl, ap, arith, inl, inr, ◌⊎◌, ◌↔◌, IsTrue, Bool, cond, leb, ltb, ◌&&◌}
 use Rattle.std.specs.Prelude.{Option, None, Some}
-use Rattle.std.proofs.lemmas.Bool.Decides.{leb_tells, nat_tests}
-use Rattle.std.proofs.lemmas.Bool.{cases_lt, cases_eq, lt-leb, le-leb, lt-ltb, le-ltb}
+use Rattle.std.proofs.lemmas.Bool.{cases_lt, lt-leb, le-leb, lt-ltb, le-ltb}
 use Rattle.std.proofs.lemmas.Nat.{pow_pos}
 use Rattle.std.proofs.lemmas.List.{get_or_past, get_or_read}
 use Rattle.pool_model.specs.declared.block.Block.{Block}
@@ -11,7 +10,7 @@ use Rattle.pool_model.specs.declared.pool.GrantedBlock.{GrantedBlock}
 use Rattle.pool_model.specs.declared.pool.PlainPool.{PlainPool}
 use Rattle.pool_model.specs.Block.{Within, covers}
 use Rattle.pool_model.specs.Pool.{buffer_at, grant_at, buffer_covers, grant_covers, owners, total}
-use Rattle.pool_model.proofs.Totals.{total-set, total-at, total-two}
+use Rattle.pool_model.proofs.Totals.{total-set, total-at}
 
 abbrev test_of : ℕ → ℕ → ℕ → ℕ
 test_of low m high = cond (leb low m && ltb m high) 1 0

@@ -1,7 +1,7 @@
 -- The sum of the owners of a minimum block against the parts that have it.
-use Rattle.std.proofs.Common.{◌≡◌, ◌≢◌, ◌↔◌, ℕ, ◌+◌, ◌<◌, ◌≤◌, length, get_or, zero, suc, refl, ap, sym, subst, arith, inl, inr, ◌⊎◌}
+use Rattle.std.proofs.Common.{◌≡◌, ℕ, ◌<◌, ◌≤◌, length, refl, ap, subst, arith, inl, inr, ◌⊎◌}
 use Rattle.std.specs.Prelude.{Option, None, Some, IsSomeAnd}
-use Rattle.std.proofs.lemmas.Bool.{cases_eq, cases_lt, cases_order}
+use Rattle.std.proofs.lemmas.Bool.{cases_lt, cases_order}
 use Rattle.pool_model.specs.declared.block.Block.{Block}
 use Rattle.pool_model.specs.declared.buffer.Buffer.{Buffer}
 use Rattle.pool_model.specs.declared.buffer.Target.{Target}

@@ -1,22 +1,22 @@
 -- Each step keeps the pool lawful.
-use Rattle.std.proofs.Common.{◌≡◌, ℕ, ◌+◌, ◌<◌, ◌≤◌, List, length, get_or, set, refl, arith, subst, sym, ap, inl, inr}
-use Rattle.std.specs.Prelude.{Option, None, Some, IsSome, IsSomeAnd, IfSome, option_map}
+use Rattle.std.proofs.Common.{◌≡◌, ℕ, ◌+◌, ◌<◌, ◌≤◌, List, length, set, refl, arith, ap, inl, inr}
+use Rattle.std.specs.Prelude.{Option, None, Some, IsSomeAnd, IfSome, option_map}
 use Rattle.std.proofs.lemmas.List.{length-set}
 use Rattle.pool_model.specs.declared.block.Block.{Block}
 use Rattle.pool_model.specs.declared.buffer.Buffer.{Buffer}
-use Rattle.pool_model.specs.declared.buffer.BufferMode.TheVariants.{New, Live, Moving, Evicted}
+use Rattle.pool_model.specs.declared.buffer.BufferMode.TheVariants.{Moving}
 use Rattle.pool_model.specs.declared.buffer.Target.{Target}
 use Rattle.pool_model.specs.declared.pool.GrantedBlock.{GrantedBlock}
 use Rattle.pool_model.specs.declared.pool.PlainPool.{PlainPool}
 use Rattle.pool_model.specs.declared.setting.Setting.{Setting}
 use Rattle.pool_model.specs.declared.step.Step.{Step}
 use Rattle.pool_model.specs.declared.step.Step.TheVariants.{Grant, Ungrant, Open, Name, Fill, Publish, Pin, Unpin, BeginEvict, Release, BeginMove, Copy, Settle, Cancel}
-use Rattle.pool_model.specs.Block.{IsBlock, Within, covers}
+use Rattle.pool_model.specs.Block.{IsBlock, covers}
 use Rattle.pool_model.specs.Buffer.{AreCellsOf, opened, named, filled, published, pinned, unpinned, evicting, moving, copied, copied_to, live_at, CanRelease, CanSettle, CanCancel, IsIdle}
-use Rattle.pool_model.specs.Lawful.{IsLawful, IsLawfulBuffer, IsTarget, TargetFits}
+use Rattle.pool_model.specs.Lawful.{IsLawful, IsLawfulBuffer, IsTarget}
 use Rattle.pool_model.specs.Pool.{buffer_at, grant_at, block_of, HasGrant, with_buffer, with_grant, without_grant, buffer_covers, grant_covers, target_covers, owners}
-use Rattle.pool_model.specs.Step.{Needs, IsFree, IsReleased, after, with_change, with_release, with_settle, with_settled, with_cancel, with_cancelled}
-use Rattle.pool_model.proofs.Options.{value_of, at_value, if_value, if_each-set}
+use Rattle.pool_model.specs.Step.{Needs, IsFree, IsReleased, after, with_change}
+use Rattle.pool_model.proofs.Options.{value_of, if_value, if_each-set}
 use Rattle.pool_model.proofs.Owners.{covers_cases, owners-set_buffer, owners-set_grant, owners-set_both, header_below, place_below, place_of_block}
 use Rattle.pool_model.proofs.BufferSteps.{opened-lawful, named-lawful, filled-lawful, published-lawful, pinned-lawful, unpinned-lawful, evicting-lawful, moving-lawful, copied-lawful, settled-lawful, cancelled-lawful}
 

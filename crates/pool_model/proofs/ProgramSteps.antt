@@ -1,5 +1,5 @@
 -- What a program that takes a buffer out, changes it and puts it back has done.
-use Rattle.std.proofs.Common.{◌≡◌, ℕ, List, [], ◌∷◌, suc, zero, get_or, set, refl, ap, sym, subst, ◌∙◌}
+use Rattle.std.proofs.Common.{◌≡◌, ℕ, List, [], ◌∷◌, suc, zero, set, refl, ap, sym, subst, ◌∙◌}
 use Rattle.std.specs.Prelude.{Option, None, Some, IsSomeAnd, Result, Ok, Err, OnOk, OnErr, option_map}
 use Rattle.std.proofs.lemmas.List.{set-get_or}
 use Rattle.pool_model.specs.declared.buffer.Buffer.{Buffer}

@@ -1,28 +1,15 @@
 -- Every run keeps the pool lawful, and leaves the held buffers alone.
-use Rattle.std.proofs.Common.{◌≡◌, ◌≢◌, ℕ, ◌<◌, ◌≤◌, List, [], ◌∷◌, ◌++◌, length, get_or, set, replicate, zero, suc, refl, ap, sym, subst, ◌∙◌, ◌+◌, arith, inl, inr, ◌⊎◌}
-use Rattle.std.specs.Prelude.{Option, None, Some, IsSomeAnd, IfSome, option_map}
-use Rattle.std.proofs.lemmas.Bool.{cases_eq}
-use Rattle.std.proofs.lemmas.List.{get_or-set_same, get_or-set_other}
-use Rattle.pool_model.specs.declared.block.Block.{Block}
-use Rattle.pool_model.specs.declared.buffer.Buffer.{Buffer}
-use Rattle.pool_model.specs.declared.buffer.BufferMode.{BufferMode}
-use Rattle.pool_model.specs.declared.buffer.BufferMode.TheVariants.{New, Live, Moving, Evicted}
-use Rattle.pool_model.specs.declared.pool.GrantedBlock.{GrantedBlock}
+use Rattle.std.proofs.Common.{◌≡◌, ℕ, List, [], ◌∷◌, ◌++◌, get_or, replicate, zero, suc, refl, sym, subst, ◌+◌, arith}
+use Rattle.std.specs.Prelude.{Option, None, IfSome}
 use Rattle.pool_model.specs.declared.pool.PlainPool.{PlainPool}
 use Rattle.pool_model.specs.declared.setting.Setting.{Setting}
 use Rattle.pool_model.specs.declared.step.Step.{Step}
-use Rattle.pool_model.specs.declared.step.Step.TheVariants.{Grant, Ungrant, Open, Name, Fill, Publish, Pin, Unpin, BeginEvict, Release, BeginMove, Copy, Settle, Cancel}
-use Rattle.pool_model.specs.Block.{Within, covers}
-use Rattle.pool_model.specs.Buffer.{named, filled, published, pinned, unpinned, evicting, moving, copied, live_at}
-use Rattle.pool_model.specs.Lawful.{IsLawful, IsLawfulBuffer, HoldersFit}
-use Rattle.pool_model.specs.Laws.{EveryRunIsLawful, LawfulIsDisjoint, IsLawfulOnTheWay, IsHeld, SparesHeld, KeepsHeld, StaysAs}
-use Rattle.pool_model.specs.Parts.{Has, buffer_block, buffer_target, granted_block}
-use Rattle.pool_model.specs.Pool.{buffer_at, grant_at, block_of, HasGrant, with_buffer, total, buffer_covers, grant_covers, owners, empty_pool}
-use Rattle.pool_model.specs.Step.{IsRun, Needs, after, run}
-use Rattle.pool_model.proofs.Owners.{header_below}
-use Rattle.pool_model.proofs.PoolSteps.{step_keeps, buffer_lawful, target_of}
-use Rattle.pool_model.proofs.Options.{value_of, at_value, some_and}
-use Rattle.pool_model.proofs.PartsAreOwners.{owners-part, owned_once}
+use Rattle.pool_model.specs.Lawful.{IsLawful}
+use Rattle.pool_model.specs.Laws.{EveryRunIsLawful, LawfulIsDisjoint, IsLawfulOnTheWay}
+use Rattle.pool_model.specs.Pool.{total, buffer_covers, grant_covers, owners, empty_pool}
+use Rattle.pool_model.specs.Step.{IsRun, after, run}
+use Rattle.pool_model.proofs.PoolSteps.{step_keeps}
+use Rattle.pool_model.proofs.PartsAreOwners.{owned_once}
 use Rattle.pool_model.proofs.HeldBuffers.{step_spares, step_keeps_held}
 
 -- a run from a lawful pool leads to one

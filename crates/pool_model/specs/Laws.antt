@@ -8,7 +8,7 @@ use Rattle.pool_model.specs.declared.step.Step.{Step}
 use Rattle.pool_model.specs.declared.step.Step.TheVariants.{Grant, Ungrant, Open, Name, Fill, Publish, Pin, Unpin, BeginEvict, Release, BeginMove, Copy, Settle, Cancel}
 use Rattle.pool_model.specs.Block.{Within}
 use Rattle.pool_model.specs.Lawful.{IsLawful}
-use Rattle.pool_model.specs.Parts.{Part, Has, buffer_block, buffer_target, IsOwnedOnce, OwnersCountParts}
+use Rattle.pool_model.specs.Parts.{Has, buffer_block, buffer_target, IsOwnedOnce, OwnersCountParts}
 use Rattle.pool_model.specs.Pool.{buffer_at, empty_pool}
 use Rattle.pool_model.specs.Step.{IsRun, after}
 

@@ -1,5 +1,5 @@
 -- The pool: its buffers by header, and its grants by the place at which their blocks begin. Source: this project's own.
-use Rattle.std.specs.Prelude.{◌≡◌, ℕ, ◌+◌, List, [], ◌∷◌, length, Option, None, Some, replicate, slice_index_or, slice_set}
+use Rattle.std.specs.Prelude.{◌≡◌, ℕ, ◌+◌, List, [], ◌∷◌, Option, None, Some, replicate, slice_index_or, slice_set}
 use Rattle.pool_model.specs.declared.block.Block.{Block}
 use Rattle.pool_model.specs.declared.buffer.Buffer.{Buffer}
 use Rattle.pool_model.specs.declared.buffer.Target.{Target}

@@ -1,7 +1,6 @@
-use Rattle.std.proofs.Common.{◌≡◌, ◌+◌, ◌*◌, ℕ, List, [], ◌∷◌, get_or, drop, refl, sym, ap, ◌∙◌, arith, add-zero}
+use Rattle.std.proofs.Common.{◌≡◌, ◌+◌, ◌*◌, ℕ, List, [], ◌∷◌, get_or, drop, refl, sym, ap, ◌∙◌, arith}
 use Rattle.std.proofs.lemmas.List.{get_or-drop}
 use Rattle.std.specs.Int.{from_le_bytes, w64}
-use Rattle.std.specs.Prelude.{slice_range}
 use Rattle.pool_model.specs.Content.{content_cell}
 use Rattle.pool_model.proofs.content.content_cell.Goals as goal
 

@@ -1,4 +1,4 @@
-use Rattle.std.proofs.Common.{refl, arith, below_more, ◌<◌, length, None}
+use Rattle.std.proofs.Common.{refl, arith, below_more, None}
 use Rattle.std.proofs.lemmas.Bool.{false≢true, both_ways}
 use Rattle.pool_model.specs.Pool.{buffer_covers}
 use Rattle.pool_model.proofs.Owners.{part_found, part_none}

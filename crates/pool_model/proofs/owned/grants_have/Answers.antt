@@ -1,4 +1,4 @@
-use Rattle.std.proofs.Common.{refl, arith, below_more, ◌<◌, length, None}
+use Rattle.std.proofs.Common.{refl, arith, None}
 use Rattle.std.proofs.lemmas.Bool.{false≢true}
 use Rattle.pool_model.specs.Pool.{grant_covers}
 use Rattle.pool_model.proofs.Totals.{total-zero, total-at}

@@ -1,4 +1,4 @@
-use Rattle.std.proofs.Common.{◌≡◌, sym, ap, ◌∙◌, rules}
+use Rattle.std.proofs.Common.{sym, ap, ◌∙◌, rules}
 use Rattle.std.proofs.lemmas.Bool.{iff_false}
 use Rattle.pool_model.specs.Buffer.{AreCellsOf, CanMove, moving}
 use Rattle.pool_model.specs.Pool.{HasGrant, buffer_at, without_grant}

@@ -1,5 +1,4 @@
 use Rattle.std.proofs.Common.{◌≡◌, sym, length}
-use Rattle.std.specs.Prelude.{Some}
 use Rattle.pool_model.specs.declared.buffer.Target.{Target}
 use Rattle.pool_model.specs.Pool.{buffer_at}
 use Rattle.pool_model.proofs.Options.{some_and, if_value}

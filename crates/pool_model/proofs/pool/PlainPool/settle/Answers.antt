@@ -1,6 +1,4 @@
 use Rattle.std.proofs.Common.{◌≡◌, sym, length}
-use Rattle.std.specs.Prelude.{Some}
-use Rattle.pool_model.specs.declared.buffer.Buffer.{Buffer}
 use Rattle.pool_model.specs.declared.buffer.Target.{Target}
 use Rattle.pool_model.specs.Buffer.{live_at}
 use Rattle.pool_model.specs.Pool.{buffer_at}
