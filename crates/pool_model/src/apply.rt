@@ -7,12 +7,12 @@ impl PlainPool {
     ghost use Rattle.std.specs.Prelude.{◌≡◌, ◌≤◌, OnOk, OnErr, Ok, Err};
     ghost use Rattle.pool_model.specs.declared.step.Step.TheVariants.{Grant, Ungrant, Open, Name, Fill, Publish, Pin, Unpin, BeginEvict, Release, BeginMove, Copy, Settle, Cancel};
     ghost use Rattle.pool_model.specs.Lawful.{IsLawful};
-    ghost use Rattle.pool_model.specs.Outcome.{Outcome};
+    ghost use Rattle.pool_model.specs.Outcome.{Makes};
     ghost use Rattle.pool_model.specs.Step.{Needs, after};
 
     fn grant(&mut self, setting: &Setting, seat: u32, block: Block) -> Result<(), StepFault>
         requires { setting.now.greatest_order ≤ 12 }
-        ensures { Outcome result (Needs setting.now (Grant seat block) self.old) self.new (after (Grant seat block) self.old) self.old }
+        ensures { Makes setting.now (Grant seat block) result self.old self.new }
     {
         if !block.fits_pool(setting, self.places()) || !self.is_free(block) {
             return Err(StepFault::Refused);
@@ -22,7 +22,7 @@ impl PlainPool {
     }
 
     fn ungrant(&mut self, setting: &Setting, seat: u32, block: Block) -> Result<(), StepFault>
-        ensures { Outcome result (Needs setting.now (Ungrant seat block) self.old) self.new (after (Ungrant seat block) self.old) self.old }
+        ensures { Makes setting.now (Ungrant seat block) result self.old self.new }
     {
         if !self.has_grant(seat, block) {
             return Err(StepFault::Refused);
@@ -42,7 +42,7 @@ impl PlainPool {
     ) -> Result<(), StepFault>
         requires order { setting.now.greatest_order ≤ 12 }
         requires lawful { IsLawful setting.now self.old }
-        ensures { Outcome result (Needs setting.now (Open seat header block cells) self.old) self.new (after (Open seat header block cells) self.old) self.old }
+        ensures { Makes setting.now (Open seat header block cells) result self.old self.new }
     {
         if !self.is_released(header) || !self.has_grant(seat, block) {
             return Err(StepFault::Refused);
@@ -64,7 +64,7 @@ impl PlainPool {
     ) -> Result<(), StepFault>
         requires order { setting.now.greatest_order ≤ 12 }
         requires lawful { IsLawful setting.now self.old }
-        ensures { Outcome result (Needs setting.now (Name seat header key) self.old) self.new (after (Name seat header key) self.old) self.old }
+        ensures { Makes setting.now (Name seat header key) result self.old self.new }
     {
         let Some(mut buffer) = self.take_buffer(header) else {
             return Err(StepFault::Refused);
@@ -81,7 +81,7 @@ impl PlainPool {
         header: u32,
         value: u64,
     ) -> Result<(), StepFault>
-        ensures { Outcome result (Needs setting.now (Fill seat header value) self.old) self.new (after (Fill seat header value) self.old) self.old }
+        ensures { Makes setting.now (Fill seat header value) result self.old self.new }
     {
         let Some(mut buffer) = self.take_buffer(header) else {
             return Err(StepFault::Refused);
@@ -93,7 +93,7 @@ impl PlainPool {
 
     fn publish(&mut self, setting: &Setting, seat: u32, header: u32) -> Result<(), StepFault>
         requires { IsLawful setting.now self.old }
-        ensures { Outcome result (Needs setting.now (Publish seat header) self.old) self.new (after (Publish seat header) self.old) self.old }
+        ensures { Makes setting.now (Publish seat header) result self.old self.new }
     {
         let Some(mut buffer) = self.take_buffer(header) else {
             return Err(StepFault::Refused);
@@ -104,7 +104,7 @@ impl PlainPool {
     }
 
     fn pin(&mut self, setting: &Setting, seat: u32, header: u32) -> Result<(), StepFault>
-        ensures { Outcome result (Needs setting.now (Pin seat header) self.old) self.new (after (Pin seat header) self.old) self.old }
+        ensures { Makes setting.now (Pin seat header) result self.old self.new }
     {
         let Some(mut buffer) = self.take_buffer(header) else {
             return Err(StepFault::Refused);
@@ -115,7 +115,7 @@ impl PlainPool {
     }
 
     fn unpin(&mut self, setting: &Setting, seat: u32, header: u32) -> Result<(), StepFault>
-        ensures { Outcome result (Needs setting.now (Unpin seat header) self.old) self.new (after (Unpin seat header) self.old) self.old }
+        ensures { Makes setting.now (Unpin seat header) result self.old self.new }
     {
         let Some(mut buffer) = self.take_buffer(header) else {
             return Err(StepFault::Refused);
@@ -126,7 +126,7 @@ impl PlainPool {
     }
 
     fn begin_evict(&mut self, setting: &Setting, seat: u32, header: u32) -> Result<(), StepFault>
-        ensures { Outcome result (Needs setting.now (BeginEvict seat header) self.old) self.new (after (BeginEvict seat header) self.old) self.old }
+        ensures { Makes setting.now (BeginEvict seat header) result self.old self.new }
     {
         let Some(mut buffer) = self.take_buffer(header) else {
             return Err(StepFault::Refused);
@@ -137,7 +137,7 @@ impl PlainPool {
     }
 
     fn copy(&mut self, setting: &Setting, seat: u32, header: u32) -> Result<(), StepFault>
-        ensures { Outcome result (Needs setting.now (Copy seat header) self.old) self.new (after (Copy seat header) self.old) self.old }
+        ensures { Makes setting.now (Copy seat header) result self.old self.new }
     {
         let Some(mut buffer) = self.take_buffer(header) else {
             return Err(StepFault::Refused);
@@ -148,7 +148,7 @@ impl PlainPool {
     }
 
     fn release(&mut self, setting: &Setting, seat: u32, header: u32) -> Result<(), StepFault>
-        ensures { Outcome result (Needs setting.now (Release seat header) self.old) self.new (after (Release seat header) self.old) self.old }
+        ensures { Makes setting.now (Release seat header) result self.old self.new }
     {
         let Some(buffer) = self.take_buffer(header) else {
             return Err(StepFault::Refused);
@@ -171,7 +171,7 @@ impl PlainPool {
     ) -> Result<(), StepFault>
         requires order { setting.now.greatest_order ≤ 12 }
         requires lawful { IsLawful setting.now self.old }
-        ensures { Outcome result (Needs setting.now (BeginMove seat header target cells) self.old) self.new (after (BeginMove seat header target cells) self.old) self.old }
+        ensures { Makes setting.now (BeginMove seat header target cells) result self.old self.new }
     {
         if !self.has_grant(seat, target) {
             return Err(StepFault::Refused);
@@ -194,7 +194,7 @@ impl PlainPool {
 
     fn settle(&mut self, setting: &Setting, seat: u32, header: u32) -> Result<(), StepFault>
         requires { IsLawful setting.now self.old }
-        ensures { Outcome result (Needs setting.now (Settle seat header) self.old) self.new (after (Settle seat header) self.old) self.old }
+        ensures { Makes setting.now (Settle seat header) result self.old self.new }
     {
         let Some(mut buffer) = self.take_buffer(header) else {
             return Err(StepFault::Refused);
@@ -212,7 +212,7 @@ impl PlainPool {
 
     fn cancel(&mut self, setting: &Setting, seat: u32, header: u32) -> Result<(), StepFault>
         requires { IsLawful setting.now self.old }
-        ensures { Outcome result (Needs setting.now (Cancel seat header) self.old) self.new (after (Cancel seat header) self.old) self.old }
+        ensures { Makes setting.now (Cancel seat header) result self.old self.new }
     {
         let Some(mut buffer) = self.take_buffer(header) else {
             return Err(StepFault::Refused);
@@ -249,7 +249,7 @@ impl PlainPool {
     fn make(&mut self, alloc: Global, setting: &Setting, step: Step) -> Result<(), StepFault>
         requires order { setting.now.greatest_order ≤ 12 }
         requires lawful { IsLawful setting.now self.old }
-        ensures { Outcome result (Needs setting.now step self.old) self.new (after step self.old) self.old }
+        ensures { Makes setting.now step result self.old self.new }
     {
         match step {
             Step::Grant { seat, block } => self.grant(setting, seat, block),

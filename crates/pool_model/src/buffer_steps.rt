@@ -81,6 +81,7 @@ impl Buffer {
         self.holders.as_slice().contains(&seat)
     }
 
+    /// Gives a new buffer of the seat's its key. Refuses, and changes nothing, where `CanName` isn't so.
     pub fn name(&mut self, setting: &Setting, seat: u32, key: BufferKey) -> Result<(), StepFault>
         requires { self.old.block.order ≤ 12 }
         ensures { Outcome result (CanName setting.now seat key self.old) self.new (named key self.old) self.old }
@@ -94,6 +95,7 @@ impl Buffer {
         Ok(())
     }
 
+    /// Fills the next cell of a new buffer of the seat's. Refuses, and changes nothing, where `CanFill` isn't so.
     pub fn fill(&mut self, setting: &Setting, seat: u32, value: u64) -> Result<(), StepFault>
         ensures { Outcome result (CanFill setting.now seat value self.old) self.new (filled value self.old) self.old }
     {
@@ -111,6 +113,8 @@ impl Buffer {
         Ok(())
     }
 
+    /// Makes a filled buffer of the seat's live, with the seat as its holder. Refuses where `CanPublish` isn't so; then,
+    /// and where memory is wanting, nothing changes.
     pub fn publish(&mut self, seat: u32) -> Result<(), StepFault>
         requires { self.old.mode ≡ New → self.old.holders ≡ [] }
         ensures { Outcome result (CanPublish seat self.old) self.new (published seat self.old) self.old }
@@ -134,6 +138,7 @@ impl Buffer {
         }
     }
 
+    /// Makes the seat a holder. Refuses where `CanPin` isn't so; then, and where memory is wanting, nothing changes.
     pub fn pin(&mut self, seat: u32) -> Result<(), StepFault>
         ensures { Outcome result (CanPin seat self.old) self.new (pinned seat self.old) self.old }
     {
@@ -143,6 +148,7 @@ impl Buffer {
         self.hold(seat)
     }
 
+    /// Lets the seat's hold go. Refuses, and changes nothing, where the seat is no holder.
     pub fn unpin(&mut self, seat: u32) -> Result<(), StepFault>
         ensures { Outcome result (CanUnpin seat self.old) self.new (unpinned seat self.old) self.old }
     {
@@ -153,6 +159,7 @@ impl Buffer {
         Ok(())
     }
 
+    /// Takes an idle buffer for the seat, to evict it. Refuses, and changes nothing, where it isn't idle.
     pub fn begin_evict(&mut self, seat: u32) -> Result<(), StepFault>
         ensures { Outcome result (IsIdle self.old) self.new (evicting seat self.old) self.old }
     {
@@ -181,6 +188,7 @@ impl Buffer {
         self.done = 0;
     }
 
+    /// Copies the next cell to the target. Refuses, and changes nothing, where `CanCopy` isn't so.
     pub fn copy(&mut self, seat: u32) -> Result<(), StepFault>
         ensures { Outcome result (CanCopy seat self.old) self.new (copied self.old) self.old }
     {
