@@ -30,7 +30,7 @@ abbrev pub behind : List ℕ → Result (List ℕ) TailFault → Result (List �
 behind front (Ok ns) = Ok (front ++ ns)
 behind front (Err e) = Err e
 
--- What a call that takes memory answers, seen by `view`, is what reading gives, unless memory was refused.
+-- a fault that isn't want of memory is the one that reading gives
 abbrev pub Fails : {Y : Type 0} → TailFault → Result Y TailFault → Type 0
 Fails NoMemory read = Unit {0}
 Fails fault.TooShort read = read ≡ Err fault.TooShort
@@ -44,6 +44,7 @@ Fails fault.RootPresent read = read ≡ Err fault.RootPresent
 Fails fault.StreamOutOfStripe read = read ≡ Err fault.StreamOutOfStripe
 Fails (fault.Read e) read = read ≡ Err (fault.Read e)
 
+-- What a call that takes memory answers, seen by `view`, is what reading gives, unless memory was refused.
 abbrev pub Gives : {X Y : Type 0} → (X → Y) → Result X TailFault → Result Y TailFault → Type 0
 Gives view (Ok x) read = read ≡ Ok (view x)
 Gives view (Err e) read = Fails e read

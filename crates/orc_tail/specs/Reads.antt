@@ -1,4 +1,5 @@
--- Which reads of a file lead to its tail, and to a stripe's footer, where no read fails.
+-- Which reads of a file lead to its tail, and to a stripe's footer, where no read fails. Source: this
+-- project's own.
 use Rattle.std.specs.Prelude.{ℕ, ◌+◌, ◌-◌, min, ◌||◌, List, [], ◌∷◌, Result, Ok, Err, nat_lt, ◌==◌, if◌then◌else◌, slice_range}
 use Rattle.outside.specs.declared.file_ref.FileRef.{FileRef}
 use Rattle.outside.specs.declared.file_ref.FileRange.{FileRange}

@@ -1,6 +1,7 @@
 -- A stripe's footer, by the file's bytes: where its streams lie, and its encodings, or the first of three
 -- conditions that refuses it. Source: Apache ORC specification v1, "Stripe Footer"; the conditions and
--- their order are this project's own.
+-- their order are this project's own: 1 a message is broken, 2 the streams pass the stripe's end, 3 the root has a
+-- PRESENT stream with bytes.
 use Rattle.std.specs.Prelude.{◌≡◌, ℕ, ◌+◌, ◌≤◌, Bool, false, ◌&&◌, List, [], ◌∷◌, Option, Some, None, Result, Ok, Err, ◌==◌, nat_lt, if◌then◌else◌, slice_range, sum_by, find}
 use Rattle.orc_tail.specs.declared.fault.TailFault.{TailFault}
 use Rattle.orc_tail.specs.declared.fault.TailFault.TheVariants.{RootPresent, StreamOutOfStripe}

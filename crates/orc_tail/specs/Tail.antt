@@ -1,6 +1,8 @@
 -- The tail of a file, by the file's bytes: found from the last byte, the PostScript and the footer, or the first
 -- of nine conditions that refuses the file. Source: Apache ORC specification v1, "File Tail"; the conditions
--- and their order are this project's own.
+-- and their order are this project's own: 1 the file is too large, 2 too short, 3 there is no PostScript, 4 the file
+-- is compressed, 5 the footer lies out of it, 6 a message is broken, 7 the types are wrong, 8 there are too many
+-- stripes, 9 a stripe lies out of the file.
 --
 --     "ORC" | stripes | metadata | footer | PostScript | p, the PostScript's length, in one byte
 use Rattle.std.specs.Prelude.{ℕ, ◌+◌, ◌-◌, Bool, not, ◌&&◌, ◌||◌, List, [], ◌∷◌, length, map, Option, Result, Ok, Err, ◌==◌, nat_lt, nat_le, if◌then◌else◌, slice_index, slice_range, bytes_eq, find}

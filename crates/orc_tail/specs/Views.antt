@@ -1,4 +1,5 @@
 -- What the program's parts of a footer are as messages: lists in the place of vectors, and bytes in that of references.
+-- Source: this project's own.
 use Rattle.std.specs.Prelude.{map}
 use Rattle.orc_tail.specs.declared.types.ColumnType.{ColumnType}
 use Rattle.orc_tail.specs.declared.footer.Footer.{Footer}
