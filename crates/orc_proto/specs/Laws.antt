@@ -1,4 +1,4 @@
--- The laws that tie reading to spelling.
+-- The laws that tie reading to spelling. Source: this project's own, over the protobuf wire format.
 use Rattle.std.specs.Prelude.{◌≡◌, ℕ, ◌^◌, ◌<◌, ◌≤◌, List, [], ◌∷◌, ◌++◌, length, map, Result, Ok, Err}
 use Rattle.std.specs.List.{AllByRecursion}
 use Rattle.orc_proto.specs.declared.fault.WireFault.{WireFault}

@@ -60,6 +60,7 @@ abbrev pub Joins : {X : Type 0} → (List ℕ → X → Type 0) → List ℕ →
 Joins Spells bytes [] = bytes ≡ []
 Joins Spells bytes (x ∷ xs) = (first : List ℕ) × (rest : List ℕ) × Spells first x × Joins Spells rest xs × (bytes ≡ first ++ rest)
 
+-- the spellings of the fields, joined in order, are the bytes
 abbrev pub Message : List ℕ → List Entry → Type 0
 Message bytes fields = Joins SpellsField bytes fields
 

@@ -1,6 +1,8 @@
 -- Reading from left to right, up to the first fault. A fault carries the place of the item at which the
 -- spelling breaks: of a message's field the place of its key, of a packed field that of the number.
--- Within an item the faults are judged in the order key, number, wire type, value.
+-- Within an item the faults are judged in the order key, number, wire type, value. Source: the protobuf wire
+-- format; the order of the faults, their places, ten bytes of a varint and the refusal of groups are this
+-- project's own.
 use Rattle.std.specs.Prelude.{◌≡◌, ℕ, zero, suc, ◌+◌, ◌-◌, ◌*◌, ◌/◌, ◌%◌, ◌^◌, Option, Some, None, Result, Ok, Err, List, [], ◌∷◌, length, take, drop, nat_lt, ◌==◌, if◌then◌else◌}
 use Rattle.orc_proto.specs.declared.fault.WireFault.{WireFault}
 use Rattle.orc_proto.specs.declared.fault.WireFault.TheVariants.{Truncated, LongVarint, BadWireType, BadKey}

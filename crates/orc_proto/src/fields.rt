@@ -13,6 +13,8 @@ use std::marker::Model;
 ///
 /// A contract sees it as the list of the answers that `next` is still to give: fields, and a fault as the
 /// last one where the bytes are no message.
+///
+/// Source: the protobuf wire format, "Message Structure".
 #[derive(Drop)]
 pub struct Fields<'a> {
     rest: &'a [u8],

@@ -11,6 +11,8 @@ use std::marker::Model;
 ///
 /// A contract sees it as the list of the answers that `next` is still to give: numbers, and a fault as the
 /// last one where the bytes are no varints.
+///
+/// Source: the protobuf wire format, "Base 128 Varints".
 #[derive(Drop)]
 pub struct Packed<'a> {
     rest: &'a [u8],

@@ -29,6 +29,8 @@ pub(crate) fn read_varint(place: u64, bytes: &[u8]) -> Result<(u64, &[u8]), Wire
 }
 
 /// How many bytes the shortest varint of `value` has: 1 to 10.
+///
+/// Source: the protobuf wire format, "Base 128 Varints".
 pub fn varint_len(value: u64) -> usize
     ensures len { result ≡ length (shortest value) }
     ensures most { result ≤ 10 }
@@ -43,6 +45,8 @@ pub fn varint_len(value: u64) -> usize
 /// Writes the shortest varint of `value` to the front of `into`, which has at least `varint_len(value)` bytes.
 ///
 /// It answers how many bytes these are. The bytes behind them stay as they were.
+///
+/// Source: the protobuf wire format, "Base 128 Varints".
 pub fn write_varint(value: u64, into: &mut [u8]) -> usize
     requires { length (shortest value) ≤ length into.old }
     ensures len { result ≡ length (shortest value) }

@@ -1,4 +1,5 @@
 pub mod IntDecoder
 pub mod IntRun1
 pub use Rattle.outside.specs.Filling
+pub use Rattle.outside.specs.Reading
 pub use Rattle.outside.specs.Runs

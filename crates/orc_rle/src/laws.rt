@@ -6,12 +6,10 @@ ghost use Rattle.orc_rle.specs.IntRun1.{IntRun1, int_run1};
 /// No spelling of a run begins the spelling of another run.
 pub fn runs_begin_no_other()
     ensures { (signed : Bool) → BeginsNoOther (IntRun1 signed) }
-{
-}
+{}
 
 /// A stream spells so many values, or it breaks before them with the fault of the first run that isn't
 /// whole, and never both: so `fill` answers Ok exactly where the stream spells the values.
 pub fn every_stream_is_decided()
     ensures { (signed : Bool) → IsDecided (IntRun1 signed) (int_run1 signed) }
-{
-}
+{}

@@ -1,4 +1,5 @@
--- The cause of a fault: the count of faults of the object that a call was given.
+-- The cause of a fault: the count of faults of the object that a call was given, which is a number of 64 bits. Source:
+-- this project's own.
 use Rattle.std.specs.Prelude.{ℕ, ◌<◌, ◌≤◌, ◌⊎◌, Result, IsErr}
 
 -- the last value of a count of faults, where it stands still

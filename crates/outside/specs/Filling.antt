@@ -1,4 +1,5 @@
--- What a decoder of runs does: it gives values, and keeps what it holds between two calls.
+-- What a decoder of runs does: it gives values, and keeps what it holds between two calls. Source: this
+-- project's own.
 use Rattle.std.specs.Prelude.{◌≡◌, ℕ, ◌+◌, List, ◌++◌, length, Option, Some, Result, Ok, Err, IsErrAnd}
 use Rattle.outside.specs.declared.run_fault.RunFault.{RunFault}
 use Rattle.outside.specs.declared.run_fault.RunFault.TheVariants.{Read}

@@ -17,6 +17,7 @@ pub record Absorbed (groups count asked : ℕ) (piece numbers : List ℕ) (group
   pub fewer : length numbers ≤ length piece
   pub nearer : count + length piece ≤ 10 * length numbers + count'
 
+-- what a call that absorbs a piece answers: how many numbers ended, or that one is too long
 abbrev pub AbsorbsTo : ℕ → ℕ → List ℕ → List ℕ → ℕ → ℕ → Result ℕ RunFault → Type 0
 AbsorbsTo groups count piece out groups' count' (Ok ended) = (ended ≤ length out) × Absorbed groups count (length out) piece (take ended out) groups' count'
 AbsorbsTo groups count piece out groups' count' (Err fault) = (fault ≡ LongVarint) × ((more : List ℕ) → open_varints groups count (length out) (piece ++ more) ≡ Err LongVarint)

@@ -1,4 +1,5 @@
 -- Reading from the front of a stream: as a function on lists of bytes, and as what a call on a feed does.
+-- Source: this project's own.
 use Rattle.std.specs.Prelude.{[], ◌∷◌, ◌≡◌, ℕ, List, length, take, drop, Option, Some, Result, Ok, Err, nat_le, if◌then◌else◌, IsErrAnd}
 use Rattle.outside.specs.declared.run_fault.RunFault.{RunFault}
 use Rattle.outside.specs.declared.run_fault.RunFault.TheVariants.{StreamEnds, Read}

@@ -1,7 +1,8 @@
 -- Runs: that whole runs spell values, where they break, and what a decoder holds between two calls.
 --
 -- A format of runs is a relation `Run`, which says what bytes spell what values, with a case for each form,
--- and a reader of one run, which says what the first fault is where no whole run stands.
+-- and a reader of one run, which says what the first fault is where no whole run stands. Source: the runs are those
+-- of the Apache ORC specification v1; that the fewest are read, and what follows is ignored, is this project's own.
 use Rattle.std.specs.Prelude.{◌≡◌, ℕ, ◌<◌, ◌≤◌, ◌⊎◌, List, [], ◌++◌, length, Ok, Err}
 use Rattle.outside.specs.declared.run_fault.RunFault.{RunFault}
 use Rattle.outside.specs.Reading.{Reader}

@@ -13,6 +13,7 @@ pub struct Begun {
 }
 
 impl Begun {
+    /// A number of which no byte has been read.
     pub fn new() -> Begun
         ensures groups { result.groups ≡ 0 }
         ensures count { result.count ≡ 0 }

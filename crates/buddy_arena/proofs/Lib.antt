@@ -1,0 +1,9 @@
+pub mod BitLemmas
+pub mod BlockLemmas
+pub mod FreeLemmas
+pub mod SetLemmas
+pub mod AnswerLemmas
+pub mod FindLemmas
+pub mod MaskLemmas
+pub mod ScanLemmas
+pub mod WordLemmas

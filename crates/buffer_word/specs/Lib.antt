@@ -1,0 +1,3 @@
+pub mod StateWord
+pub mod KeyWord
+pub mod Changes

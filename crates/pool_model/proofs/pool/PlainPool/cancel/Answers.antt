@@ -1,0 +1,27 @@
+use Rattle.std.proofs.Common.{◌≡◌, sym, length}
+use Rattle.pool_model.specs.declared.buffer.Target.{Target}
+use Rattle.pool_model.specs.Pool.{buffer_at}
+use Rattle.pool_model.proofs.Options.{some_and, if_value}
+use Rattle.pool_model.proofs.PoolSteps.{buffer_lawful, target_of}
+use Rattle.std.proofs.lemmas.Bool.{iff_false}
+use Rattle.pool_model.specs.Buffer.{CanCancel}
+use Rattle.pool_model.proofs.ProgramSteps.{refused_back, cancel_made}
+use Rattle.pool_model.proofs.pool.PlainPool.cancel.Goals as goal
+
+pub returns-then-not-can_cancel : goal.returns-then-not-can_cancel
+returns-then-not-can_cancel c =
+    refused_back c.args.self.now c.take_buffer.new.self c.put_buffer.new.self c.args.header c.in-Some.buffer (CanCancel c.args.seat)
+    c.in-Some.ensures.taken c.take_buffer.ensures.left c.put_buffer.ensures (iff_false c.can_cancel.ensures c.if-not-can_cancel.true)
+
+pub returns : goal.returns
+returns c =
+    let p = c.args.self.now in
+    let b = c.in-Some.buffer in
+    let e = c.in-Some.ensures.taken in
+    let can : CanCancel c.args.seat b = c.can_cancel.ensures.0 c.if-not-can_cancel.false in
+    let t = target_of c.args.setting.now (length p.grants) b (buffer_lawful c.args.setting.now p c.args.header b c.requires (sym e)) can.0 in
+    let given = if_value (λ (x : Target). c.cancel-left.result ≡ x.block) b.target t.0 t.1 c.cancel-left.ensures.target in (
+      some_and (CanCancel c.args.seat) (buffer_at p c.args.header) b (sym e) can,
+      cancel_made p c.take_buffer.new.self c.put_buffer-2.new.self c.put_grant.new.self c.args.seat c.args.header b c.cancel-left.new.self c.cancel-left.result t.0
+          e c.take_buffer.ensures.left t.1 c.cancel-left.ensures.live given c.put_buffer-2.ensures c.put_grant.ensures,
+    )

@@ -1,0 +1,68 @@
+-- The laws of the pool.
+use Rattle.std.specs.Prelude.{◌≡◌, ◌≢◌, ℕ, List, [], ◌∷◌, Some, IsSomeAnd, ◌⊎◌}
+use Rattle.pool_model.specs.declared.buffer.Buffer.{Buffer}
+use Rattle.pool_model.specs.declared.buffer.BufferMode.TheVariants.{Live}
+use Rattle.pool_model.specs.declared.pool.PlainPool.{PlainPool}
+use Rattle.pool_model.specs.declared.setting.Setting.{Setting}
+use Rattle.pool_model.specs.declared.step.Step.{Step}
+use Rattle.pool_model.specs.declared.step.Step.TheVariants.{Grant, Ungrant, Open, Name, Fill, Publish, Pin, Unpin, BeginEvict, Release, BeginMove, Copy, Settle, Cancel}
+use Rattle.pool_model.specs.Block.{Within}
+use Rattle.pool_model.specs.Lawful.{IsLawful}
+use Rattle.pool_model.specs.Parts.{Has, buffer_block, buffer_target, IsOwnedOnce, OwnersCountParts}
+use Rattle.pool_model.specs.Pool.{buffer_at, empty_pool}
+use Rattle.pool_model.specs.Step.{IsRun, after}
+
+-- the header's buffer has a holder
+abbrev pub IsHeld : PlainPool → ℕ → Type 0
+IsHeld p header = IsSomeAnd (buffer_at p header) (λ (b : Buffer). b.holders ≢ [])
+
+-- the step moves, evicts or grants minimum block m
+abbrev pub Takes : Step → PlainPool → ℕ → Type 0
+Takes (Grant seat b) p m = Within b m
+Takes (BeginEvict seat header) p m = Has p (buffer_block header) m
+Takes (Release seat header) p m = Has p (buffer_block header) m
+Takes (BeginMove seat header target cells) p m = Has p (buffer_block header) m ⊎ Within target m
+Takes (Copy seat header) p m = Has p (buffer_block header) m ⊎ Has p (buffer_target header) m
+Takes (Settle seat header) p m = Has p (buffer_block header) m ⊎ Has p (buffer_target header) m
+Takes (Cancel seat header) p m = Has p (buffer_block header) m ⊎ Has p (buffer_target header) m
+Takes (Ungrant seat b) p m = ⊥
+Takes (Open seat header b cells) p m = ⊥
+Takes (Name seat header key) p m = ⊥
+Takes (Fill seat header value) p m = ⊥
+Takes (Publish seat header) p m = ⊥
+Takes (Pin seat header) p m = ⊥
+Takes (Unpin seat header) p m = ⊥
+
+-- no minimum block of a held buffer is taken
+abbrev pub SparesHeld : Step → PlainPool → Type 0
+SparesHeld s p = (header m : ℕ) → IsHeld p header → Has p (buffer_block header) m → Takes s p m → ⊥
+
+-- the buffer is live where it was, with its key and its cells
+pub record StaysAs (old new : Buffer) : Type 0 where
+  pub live : new.mode ≡ Live
+  pub same_block : new.block ≡ old.block
+  pub same_key : new.key ≡ old.key
+  pub same_cells : new.cells ≡ old.cells
+
+-- each held buffer stays as it is, but for its holders
+abbrev pub KeepsHeld : Step → PlainPool → Type 0
+KeepsHeld s p =
+    (header : ℕ) (b : Buffer) → buffer_at p header ≡ Some b → b.holders ≢ [] → IsSomeAnd (buffer_at (after s p) header) (StaysAs b)
+
+-- each pool on the way is lawful, and each step leaves the held buffers alone
+abbrev pub IsLawfulOnTheWay : Setting → List Step → PlainPool → Type 0
+IsLawfulOnTheWay w [] p = IsLawful w p
+IsLawfulOnTheWay w (s ∷ ss) p = IsLawful w p × SparesHeld s p × KeepsHeld s p × IsLawfulOnTheWay w ss (after s p)
+
+-- whatever the setting, the headers, the places and the steps
+abbrev pub EveryRunIsLawful : Type 0
+EveryRunIsLawful =
+    (w : Setting) (headers places : ℕ) (steps : List Step) → IsRun w steps (empty_pool headers places) → IsLawfulOnTheWay w steps (empty_pool headers places)
+
+-- in any pool, lawful or not
+abbrev pub OwnersAreParts : Type 0
+OwnersAreParts = (p : PlainPool) (m : ℕ) → OwnersCountParts p m
+
+-- in a lawful pool no two of the blocks, targets and grants have a minimum block in common
+abbrev pub LawfulIsDisjoint : Type 0
+LawfulIsDisjoint = (w : Setting) (p : PlainPool) → IsLawful w p → (m : ℕ) → IsOwnedOnce p m
