@@ -4,6 +4,7 @@ pub mod Meaning
 pub mod PlanBytes
 pub mod Scan
 pub mod StatusCode
+pub mod Steps
 pub mod Sum
 pub mod SumPlan
 pub mod SumWords

@@ -3,6 +3,7 @@
 
 mod line;
 mod plan_bytes;
+mod run;
 mod scan;
 mod status;
 mod stop;
