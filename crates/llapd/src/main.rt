@@ -1,6 +1,9 @@
 //! The data path of a Hive LLAP daemon: reads plans, scans ORC files and prints each fragment's result.
+//!
+//! `main` makes the real objects and calls `llapd`; nothing that matters is in `main`.
 #![tactic(auto)]
 
+mod folder;
 mod line;
 mod plan_bytes;
 mod run;
@@ -14,4 +17,86 @@ mod tests;
 mod total;
 mod words;
 
-fn main() {}
+use folder::{FolderError, file_names};
+use outside::{FolderStore, OpenGate, RealWorld, Sink, StdinSource, StdoutSink};
+use run::{llapd, written};
+use status::Status;
+use std::process::ExitCode;
+use std::{env, io};
+use words::usage_line;
+
+/// Exit statuses that are `main`'s own.
+const FOLDER_FAULT: u8 = 6;
+const NO_MEMORY: u8 = 7;
+const TOO_MANY_FILES: u8 = 8;
+
+fn main(rt: HostRuntime) -> ExitCode {
+    let mut out = StdoutSink::new(io::writer(&rt));
+    let code = match program_words(rt) {
+        Ok(words) => run_words(rt, words.as_slice(), &mut out),
+        Err(WordsError::NotText) => written(&mut out, usage_line(), Status::Usage).code(),
+        Err(WordsError::NoMemory) => NO_MEMORY,
+    };
+    ExitCode::from(code)
+}
+
+/// Why the words of the command line couldn't be had.
+enum WordsError {
+    /// One isn't UTF-8.
+    NotText,
+    /// Memory was refused.
+    NoMemory,
+}
+
+/// The words after the program's name.
+fn program_words(rt: HostRuntime) -> Result<Vec<String>, WordsError> {
+    let mut words = Vec::new(rt.alloc());
+    let all = match env::args(&rt) {
+        Ok(all) => all,
+        Err(e) if e.kind() == io::ErrorKind::OutOfMemory => return Err(WordsError::NoMemory),
+        Err(_) => return Err(WordsError::NotText),
+    };
+    for word in all.skip(1) {
+        if words.push(word).is_err() {
+            return Err(WordsError::NoMemory);
+        }
+    }
+    Ok(words)
+}
+
+/// Runs the program on these words, and answers its exit status.
+fn run_words<K: Sink>(rt: HostRuntime, words: &[String], out: &mut K) -> u8 {
+    let mut lent = Vec::new(rt.alloc());
+    for word in words {
+        if lent.push(word.as_str()).is_err() {
+            return NO_MEMORY;
+        }
+    }
+    let names = match file_names(rt) {
+        Ok(names) => names,
+        Err(FolderError::Fault) => return own_line(out, b"folder fault\n", FOLDER_FAULT),
+        Err(FolderError::TooMany) => return own_line(out, b"too many files\n", TOO_MANY_FILES),
+        Err(FolderError::NoMemory) => return NO_MEMORY,
+    };
+    let mut plan = StdinSource::new(rt.reader());
+    let mut last = FolderStore::new(rt, names.as_slice());
+    let more = Vec::new(rt.alloc());
+    let status = llapd::<RealWorld, _, _, _, _>(
+        rt.alloc(),
+        lent.as_slice(),
+        &mut plan,
+        &mut last,
+        more,
+        out,
+        &OpenGate,
+    );
+    status.code()
+}
+
+/// Writes one of `main`'s own lines, and answers its status, or that of a write that failed.
+fn own_line<K: Sink>(out: &mut K, line: &[u8], code: u8) -> u8 {
+    match out.write(line) {
+        Ok(()) => code,
+        Err(_) => Status::WriteFault.code(),
+    }
+}

@@ -16,7 +16,7 @@ use std::alloc::Global;
 const MOST_READ: usize = 1_048_577;
 
 /// Writes a text, and answers its status, or that the write failed.
-fn written<K: Sink>(out: &mut K, text: &[u8], status: Status) -> Status
+pub fn written<K: Sink>(out: &mut K, text: &[u8], status: Status) -> Status
     ensures { Written (K.content out.old) (K.content out.new) (K.fault_count out.old) (K.fault_count out.new)
         text.now status result }
 {

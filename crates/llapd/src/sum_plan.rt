@@ -95,7 +95,7 @@ fn is_name(bytes: &[u8]) -> bool
 }
 
 /// Whether it is the name of a file.
-fn is_file_name(bytes: &[u8]) -> bool
+pub fn is_file_name(bytes: &[u8]) -> bool
     ensures { IsTrue result ↔ IsFileName bytes.now }
 {
     is_name(bytes) && bytes[0] != b'.'
