@@ -1,4 +1,5 @@
 pub mod Headline
+pub mod Laws
 pub mod Line
 pub mod Meaning
 pub mod PlanBytes

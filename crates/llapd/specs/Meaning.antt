@@ -16,14 +16,14 @@ use Rattle.llapd.specs.declared.line.Outcome.{Outcome}
 use Rattle.llapd.specs.declared.line.Outcome.TheVariants.{NoFile, NotBuilt}
 use Rattle.llapd.specs.Total.{IsOutcomeOf}
 
--- What a scan finds of the column that it sums: no file of the name, a form that this program doesn't read yet,
--- or a number of rows and the bytes of the stream that has their values.
+-- What a scan finds of the column that it sums: no file of the name, a file that isn't whole, hasn't the column or has
+-- a form that this program doesn't read yet, or a number of rows and the bytes of the stream that has their values.
 pub data Found : Type 0 where
   no_file : Found
   not_built : Found
   values_in : ℕ → List ℕ → Found
 
--- where a stream lies; one that isn't there is empty
+-- the bytes of a stream; of one that isn't there, none
 abbrev pub stream_bytes : List ℕ → Option StreamRange → List ℕ
 stream_bytes file None = []
 stream_bytes file (Some stream) = slice_range file stream.at (stream.at + stream.len)

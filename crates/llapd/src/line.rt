@@ -12,7 +12,7 @@ pub enum Outcome {
     Sum(Option<i64>),
     /// No file has the name.
     NoFile,
-    /// The file has a form that this program doesn't read yet.
+    /// The file isn't whole, hasn't the column, or has a form that this program doesn't read yet.
     NotBuilt,
     /// A read of the file failed.
     ReadFault,

@@ -4,6 +4,7 @@
 #![tactic(auto)]
 
 mod folder;
+mod laws;
 mod line;
 mod plan_bytes;
 mod run;

@@ -8,7 +8,7 @@ use outside::{Failed, NoMemory};
 /// Why a scan ended before its values were read.
 #[derive(Clone, Copy, Debug, PartialEq, Eq)]
 pub enum Stop {
-    /// The file has a form that this program doesn't read yet.
+    /// The file isn't whole, hasn't the column, or has a form that this program doesn't read yet.
     NotBuilt,
     /// A read of the file failed.
     Read(Failed),

@@ -1,6 +1,6 @@
 //! The plan of one sum: five words in one line.
 ghost use Rattle.std.specs.Prelude.{◌≡◌, ◌↔◌, ◌==◌, ◌<◌, IsTrue, IfOk, IfSome, option_map, position, length};
-ghost use Rattle.llapd.specs.SumPlan.{IsName, IsFileName, IsOnePlan, IsReadAs, is_name_byte};
+ghost use Rattle.llapd.specs.SumPlan.{IsName, IsFileName, IsReadAs, is_name_byte};
 ghost use Rattle.llapd.specs.SumWords.{without_end, cut_at_space, words_of};
 
 use outside::{Name, NoMemory};
@@ -35,11 +35,6 @@ pub fn read_sum_plan(alloc: Global, bytes: &[u8]) -> Result<Option<SumPlan>, NoM
     }
     Ok(None)
 }
-
-/// The law that the bytes of a plan determine its three words. It does nothing.
-pub fn plan_is_one(_bytes: &[u8])
-    ensures { IsOnePlan _bytes.now }
-{}
 
 /// The bytes without one byte 0A at their end, where they have it.
 fn line_of(bytes: &[u8]) -> &[u8]
