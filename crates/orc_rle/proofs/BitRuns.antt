@@ -1,14 +1,14 @@
 -- Runs of bits, by the runs of their bytes.
-use Rattle.std.proofs.Common.{◌≡◌, ℕ, zero, suc, ◌+◌, ◌*◌, ◌/◌, ◌<◌, ◌≤◌, ◌↔◌, Bool, List, [], ◌∷◌, ◌++◌, length, take, drop, Result, Ok, Err, refl, sym, ap, subst, ◌∙◌, arith, length-append, append_assoc}
+use Rattle.std.proofs.Common.{◌≡◌, ℕ, zero, ◌*◌, ◌<◌, ◌≤◌, Bool, List, [], ◌∷◌, ◌++◌, length, take, drop, Result, Ok, Err, refl, sym, ap, subst, ◌∙◌, arith, length-append, append_assoc}
 use Rattle.std.proofs.Math.Seq.{take-append_seam}
 use Rattle.std.proofs.lemmas.List.{length-take-le, take-append-drop, take-append-le}
 use Rattle.outside.specs.declared.run_fault.RunFault.{RunFault}
-use Rattle.outside.specs.Reading.{Reader, go_on, value}
-use Rattle.outside.specs.Runs.{Joined, none, one, Fewest, no_run, runs, Between, Spells, Breaks, IsReaderOf}
+use Rattle.outside.specs.Reading.{go_on, value}
+use Rattle.outside.specs.Runs.{Joined, none, one, Fewest, no_run, runs, Spells, Breaks, IsReaderOf}
 use Rattle.outside.proofs.VarintRuns.{read_is, went_on}
 use Rattle.orc_rle.specs.BitRun.{byte_bits, bits_of, BitRun, bits, bit_run, bytes_for, BitsAreSpelled, BitsBreak}
-use Rattle.orc_rle.specs.ByteRun.{ByteRun, byte_run}
-use Rattle.orc_rle.proofs.ByteRunReader.{byte_run_reads}
+use Rattle.orc_rle.specs.ByteRun.{ByteRun, byte_run, OnlyEnds}
+use Rattle.orc_rle.proofs.ByteRunReader.{byte_run_reads, byte_run_ends}
 
 abbrev read_of : {X : Type 0} → X × List ℕ → Result (X × List ℕ) RunFault
 read_of p = Ok p
@@ -121,9 +121,9 @@ went_wrong : {X Y : Type 0} (read : Result (X × List ℕ) RunFault) (f : X → 
 went_wrong (Ok (x, after)) f fault e = absurd (let no : read_of (f x, after) ≡ Err fault = e in cc)
 went_wrong (Err other) f fault e = let same : other ≡ fault = cc in ap Err same
 
-bytes_break : (stream : List ℕ) (count : ℕ) (fault : RunFault) → Breaks BitRun bit_run stream count fault → Breaks ByteRun byte_run stream (bytes_for count) fault
+bytes_broken : (stream : List ℕ) (count : ℕ) (fault : RunFault) → Breaks BitRun bit_run stream count fault → Breaks ByteRun byte_run stream (bytes_for count) fault
 unfolding BytesOf
-bytes_break stream count fault breaks =
+bytes_broken stream count fault breaks =
     let found = bytes_joined breaks.joined in
     let len : length breaks.values ≡ 8 * length found.0 = ap length found.2 ∙ length-bits_of found.0 in
     record {
@@ -136,8 +136,8 @@ bytes_break stream count fault breaks =
       broken = went_wrong (byte_run breaks.rest) bits_of fault breaks.broken;
     }
 
-bits_break_ : (stream : List ℕ) (count : ℕ) (fault : RunFault) → Breaks ByteRun byte_run stream (bytes_for count) fault → Breaks BitRun bit_run stream count fault
-bits_break_ stream count fault breaks = record {
+bits_broken : (stream : List ℕ) (count : ℕ) (fault : RunFault) → Breaks ByteRun byte_run stream (bytes_for count) fault → Breaks BitRun bit_run stream count fault
+bits_broken stream count fault breaks = record {
   used = breaks.used;
   rest = breaks.rest;
   values = bits_of breaks.values;
@@ -148,4 +148,10 @@ bits_break_ stream count fault breaks = record {
 }
 
 pub bits_break : BitsBreak
-bits_break stream count fault = (bytes_break stream count fault, bits_break_ stream count fault)
+bits_break stream count fault = (bytes_broken stream count fault, bits_broken stream count fault)
+
+pub bytes_only_end : OnlyEnds ByteRun byte_run
+bytes_only_end stream count fault breaks = byte_run_ends breaks.rest fault breaks.broken
+
+pub bits_only_end : OnlyEnds BitRun bit_run
+bits_only_end stream count fault breaks = byte_run_ends breaks.rest fault (went_wrong (byte_run breaks.rest) bits_of fault breaks.broken)

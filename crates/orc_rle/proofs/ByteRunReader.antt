@@ -13,6 +13,9 @@ use Rattle.orc_rle.specs.ByteRun.{ByteRun, repeated, literals, bytes_after, byte
 abbrev read_of : {X : Type 0} → X × List ℕ → Result (X × List ℕ) RunFault
 read_of p = Ok p
 
+abbrev fault_of : RunFault → Result (List ℕ × List ℕ) RunFault
+fault_of fault = Err fault
+
 -- ---- just so many bytes
 
 exactly-whole : (bytes rest : List ℕ) → exactly (length bytes) (bytes ++ rest) ≡ Ok (bytes, rest)
@@ -43,12 +46,11 @@ bytes_after-literals control bytes h k =
     let u : ltb control 256 ≡ true = lt-ltb control 256 k in
     rw (t, u) refl
 
-bytes_after-none : (control : ℕ) (bytes : List ℕ) (p : List ℕ × List ℕ) → 256 ≤ control → bytes_after control bytes ≡ read_of p → ⊥
-bytes_after-none control bytes p h e =
+bytes_after-refused : (control : ℕ) (bytes : List ℕ) → 256 ≤ control → bytes_after control bytes ≡ Err StreamEnds
+bytes_after-refused control bytes h =
     let t : ltb control 128 ≡ false = le-ltb control 128 (omega arith) in
     let u : ltb control 256 ≡ false = le-ltb control 256 h in
-    let no = rw (t, u) at e in
-    absurd cc
+    rw (t, u) refl
 
 whole : (bytes rest values : List ℕ) → ByteRun bytes values → byte_run (bytes ++ rest) ≡ Ok (values, rest)
 whole bytes rest values (repeated {control = control} {value = value} lt) = bytes_after-repeated control (value ∷ rest) lt
@@ -82,7 +84,7 @@ found (control ∷ bytes) rest values e =
       | inl lt ↦ found_repeated control bytes rest values lt (sym (bytes_after-repeated control bytes lt) ∙ e)
       | inr ge ↦ elim (cases_lt control 256) [
         | inl lt ↦ found_literals control bytes rest values ge lt (sym (bytes_after-literals control bytes ge lt) ∙ e)
-        | inr none ↦ absurd (bytes_after-none control bytes (values, rest) none e)
+        | inr none ↦ absurd (let no : Err StreamEnds ≡ read_of (values, rest) = sym (bytes_after-refused control bytes none) ∙ e in cc)
       ]
     ]
 
@@ -93,3 +95,27 @@ some bytes values (literals {values = values'} ge lt len) = omega arith
 pub byte_run_reads : IsReaderOf ByteRun byte_run
 unfolding Found
 byte_run_reads = record { whole = whole; only = found; some = some }
+
+-- ---- its faults
+
+is_end : (fault : RunFault) → fault_of StreamEnds ≡ Err fault → fault ≡ StreamEnds
+is_end fault e = cc
+
+exactly_ends : (test : Bool) (p : List ℕ × List ℕ) (fault : RunFault) → cond test (Ok p) (fault_of StreamEnds) ≡ Err fault → fault ≡ StreamEnds
+exactly_ends true p fault e = absurd (let no : read_of p ≡ Err fault = e in cc)
+exactly_ends false p fault e = is_end fault e
+
+repeated_ends : (count : ℕ) (bytes : List ℕ) (fault : RunFault) → mapped (replicate count) byte bytes ≡ Err fault → fault ≡ StreamEnds
+repeated_ends count [] fault e = is_end fault e
+repeated_ends count (value ∷ bytes) fault e = absurd (let no : read_of (replicate count value, bytes) ≡ Err fault = e in cc)
+
+pub byte_run_ends : (bytes : List ℕ) (fault : RunFault) → byte_run bytes ≡ Err fault → fault ≡ StreamEnds
+byte_run_ends [] fault e = is_end fault e
+byte_run_ends (control ∷ bytes) fault e =
+    elim (cases_lt control 128) [
+      | inl lt ↦ repeated_ends (control + 3) bytes fault (sym (bytes_after-repeated control bytes lt) ∙ e)
+      | inr ge ↦ elim (cases_lt control 256) [
+        | inl lt ↦ exactly_ends (leb (256 - control) (length bytes)) (take (256 - control) bytes, drop (256 - control) bytes) fault (sym (bytes_after-literals control bytes ge lt) ∙ e)
+        | inr none ↦ is_end fault (sym (bytes_after-refused control bytes none) ∙ e)
+      ]
+    ]

@@ -2,7 +2,7 @@
 ghost use Rattle.std.specs.Prelude.{Bool};
 ghost use Rattle.outside.specs.Runs.{BeginsNoOther, IsDecided};
 ghost use Rattle.orc_rle.specs.BitRun.{BitRun, bit_run, BitsAreSpelled, BitsBreak};
-ghost use Rattle.orc_rle.specs.ByteRun.{ByteRun, byte_run};
+ghost use Rattle.orc_rle.specs.ByteRun.{ByteRun, byte_run, OnlyEnds};
 ghost use Rattle.orc_rle.specs.IntRun1.{IntRun1, int_run1};
 
 /// No spelling of a run begins the spelling of another run of its kind.
@@ -24,4 +24,10 @@ pub fn every_stream_is_decided()
 pub fn bits_are_bits_of_bytes()
     ensures spelled { BitsAreSpelled }
     ensures breaks { BitsBreak }
+{}
+
+/// A stream of bytes or of bits breaks only where it ends: `fill` of these has no other fault of its own.
+pub fn bytes_and_bits_only_end()
+    ensures bytes { OnlyEnds ByteRun byte_run }
+    ensures bits { OnlyEnds BitRun bit_run }
 {}

@@ -178,6 +178,7 @@ fn the_laws_are_calls() {
     laws::runs_begin_no_other();
     laws::every_stream_is_decided();
     laws::bits_are_bits_of_bytes();
+    laws::bytes_and_bits_only_end();
 }
 
 const EIGHT: [bool; 8] = [true, false, false, false, false, false, false, false];

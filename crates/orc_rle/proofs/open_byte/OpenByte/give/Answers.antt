@@ -1,4 +1,4 @@
-use Rattle.std.proofs.Common.{◌≡◌, ◌+◌, ◌-◌, length, take, drop, arith, sym}
+use Rattle.std.proofs.Common.{◌≡◌, ◌-◌, length, take, drop, arith, sym}
 use Rattle.std.proofs.lemmas.List.{take-append-drop, take_at, take_all, drop-drop, length-drop}
 use Rattle.orc_rle.proofs.open_byte.OpenByte.give.Goals as goal
 
