@@ -1,4 +1,4 @@
-//! The bits of bytes.
+//! The bits of bytes, unpacked eight at a time.
 ghost use Rattle.std.specs.Prelude.{◌≡◌, ◌*◌, length};
 ghost use Rattle.orc_rle.specs.BitRun.{byte_bits, bits_of};
 
@@ -18,7 +18,7 @@ pub fn bits_of_byte(byte: u8) -> [bool; 8]
     ]
 }
 
-/// Writes the bits of these bytes to `out`.
+/// Writes the bits of these bytes to `out`, which has room for just these.
 pub fn unpack(bytes: &[u8], out: &mut [bool])
     requires { length out.old ≡ 8 * length bytes.now }
     ensures { out.new ≡ bits_of bytes.now }

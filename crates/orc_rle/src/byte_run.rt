@@ -7,6 +7,8 @@ use crate::held_bytes::HeldBytes;
 use outside::{Feed, RunFault, take_byte};
 
 /// Reads a run, and holds its bytes in the place of those that were held.
+///
+/// Answers `StreamEnds` where the stream ends before the run does; after a fault what is held isn't promised.
 pub fn read_byte_run<F: Feed>(
     feed: &mut F,
     stream: u32,

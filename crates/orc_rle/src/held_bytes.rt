@@ -77,7 +77,7 @@ impl HeldBytes {
         8 * count
     }
 
-    /// Holds copies of one byte.
+    /// Holds copies of one byte, in the place of the bytes that were held.
     pub fn repeat(&mut self, count: usize, value: u8)
         requires { count ≤ 130 }
         ensures { self.new ≡ replicate count value }
@@ -88,7 +88,9 @@ impl HeldBytes {
         self.to = count;
     }
 
-    /// Takes just so many bytes of a stream, and holds them.
+    /// Takes just so many bytes of a stream, and holds them in the place of those that were held.
+    ///
+    /// Answers as `take_exactly` does; after a fault what is held isn't promised.
     pub fn take<F: Feed>(&mut self, feed: &mut F, stream: u32, count: usize) -> Result<(), RunFault>
         requires { count ≤ 130 }
         ensures reads { Reads F.rest F.fed F.fault_count stream (exactly count) feed.old feed.new (placed self.new result) }
