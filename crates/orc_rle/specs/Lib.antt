@@ -1,3 +1,6 @@
+pub mod BitRun
+pub mod ByteRun
+pub mod Decoder
 pub mod IntDecoder
 pub mod IntRun1
 pub use Rattle.outside.specs.Filling

@@ -1,12 +1,21 @@
-//! Runs of integers, version 1.
+//! Runs of bytes, of bits, and of integers, version 1.
 #![tactic(auto)]
 
+mod bits;
+mod byte_bits;
+mod byte_run;
+mod byte_runs;
 mod held;
+mod held_bits;
+mod held_bytes;
 mod int_runs1;
 pub mod laws;
 mod number;
+mod open_byte;
 mod run1;
 
+pub use bits::Bits;
+pub use byte_runs::ByteRuns;
 pub use int_runs1::IntRuns1;
 
 #[cfg(test)]

@@ -88,11 +88,100 @@ fn two_fills_go_on(rt: HostRuntime) -> Result<(), Fail> {
     Ok(())
 }
 
+// The same for bytes.
+fn gives_bytes(
+    rt: &impl Abort,
+    alloc: Global,
+    stream: &[u8],
+    values: &[u8],
+    outcome: Result<(), RunFault>,
+) -> Result<(), Fail> {
+    let mut feed = SliceFeed::new(vec![in alloc; stream]?);
+    let mut out = vec![in alloc; 0xAAu8; values.len()]?;
+    let mut runs = ByteRuns::new(0);
+    let filled = runs.fill(&mut feed, &mut out);
+    assert_eq!(rt; filled, outcome);
+    if filled.is_ok() {
+        assert_eq!(rt; out.as_slice(), values);
+    } else {
+        assert_eq!(rt;
+            runs.fill(&mut feed, &mut out),
+            outcome,
+            "the fault is kept"
+        );
+    }
+    Ok(())
+}
+
+// The same for bits.
+fn gives_bits(
+    rt: &impl Abort,
+    alloc: Global,
+    stream: &[u8],
+    values: &[bool],
+    outcome: Result<(), RunFault>,
+) -> Result<(), Fail> {
+    let mut feed = SliceFeed::new(vec![in alloc; stream]?);
+    let mut out = vec![in alloc; true; values.len()]?;
+    let mut runs = Bits::new(0);
+    let filled = runs.fill(&mut feed, &mut out);
+    assert_eq!(rt; filled, outcome);
+    if filled.is_ok() {
+        assert_eq!(rt; out.as_slice(), values);
+    } else {
+        assert_eq!(rt;
+            runs.fill(&mut feed, &mut out),
+            outcome,
+            "the fault is kept"
+        );
+    }
+    Ok(())
+}
+
+#[test]
+fn byte_and_bit_vectors(rt: HostRuntime) -> Result<(), Fail> {
+    let alloc = rt.alloc();
+    let ends = Err(RunFault::StreamEnds);
+    gives_bytes(&rt, alloc, &[0x61, 0x00], &[0; 100], Ok(()))?;
+    gives_bytes(&rt, alloc, &[0xFE, 0x44, 0x45], &[0x44, 0x45], Ok(()))?;
+    gives_bytes(&rt, alloc, &[0xFF, 0x44, 0x45], &[0x44], Ok(()))?;
+    gives_bytes(&rt, alloc, &[0xFE, 0x44], &[0x44], ends)?;
+    gives_bits(&rt, alloc, &[0xFF, 0x80], &EIGHT, Ok(()))?;
+    gives_bits(&rt, alloc, &[0xFF, 0x80], &[true; 9], ends)?;
+    Ok(())
+}
+
+#[test]
+fn bits_go_on_within_a_byte(rt: HostRuntime) -> Result<(), Fail> {
+    let alloc = rt.alloc();
+    let bytes: &[u8] = &[0xFE, 0xB0, 0x80];
+    let mut feed = SliceFeed::new(vec![in alloc; bytes]?);
+    let mut bits = Bits::new(0);
+    let mut first = [false; 3];
+    let mut second = [true; 7];
+    assert_eq!(rt; bits.fill(&mut feed, &mut first), Ok(()));
+    assert_eq!(rt; bits.fill(&mut feed, &mut second), Ok(()));
+    assert_eq!(rt; first.as_slice(), [true, false, true].as_slice());
+    assert_eq!(rt;
+        second.as_slice(),
+        [true, false, false, false, false, true, false].as_slice()
+    );
+    assert_eq!(rt;
+        bits.fill(&mut feed, &mut second),
+        Err(RunFault::StreamEnds)
+    );
+    Ok(())
+}
+
 #[test]
 fn the_laws_are_calls() {
     laws::runs_begin_no_other();
     laws::every_stream_is_decided();
+    laws::bits_are_bits_of_bytes();
+    laws::bytes_and_bits_only_end();
 }
+
+const EIGHT: [bool; 8] = [true, false, false, false, false, false, false, false];
 
 const DOWN: [i64; 100] = [
     100, 99, 98, 97, 96, 95, 94, 93, 92, 91, 90, 89, 88, 87, 86, 85, 84, 83, 82, 81, 80, 79, 78,
