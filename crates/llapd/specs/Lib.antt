@@ -10,3 +10,4 @@ pub mod SumPlan
 pub mod SumWords
 pub mod Total
 pub mod Words
+pub mod Worked
