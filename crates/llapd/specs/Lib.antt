@@ -11,3 +11,4 @@ pub mod SumPlan
 pub mod SumWords
 pub mod Total
 pub mod Words
+pub mod Worked

@@ -3,6 +3,8 @@
 //! `main` makes the real objects and calls `llapd`; nothing that matters is in `main`.
 #![tactic(auto)]
 
+#[cfg(test)]
+mod call_tests;
 mod folder;
 mod laws;
 mod line;
@@ -15,6 +17,8 @@ mod sum;
 mod sum_plan;
 #[cfg(test)]
 mod tests;
+#[cfg(test)]
+mod told_tests;
 mod total;
 mod words;
 

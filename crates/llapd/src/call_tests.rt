@@ -1,0 +1,299 @@
+//! Worked examples of the top call, over a file in memory whose store tells nothing.
+ghost use Rattle.std.specs.Prelude.{◌≡◌, ◌≤◌, ◌+◌, ℕ, List, [], ◌∷◌, length, Option, None, OnOk, OnErr, slice_range};
+ghost use Rattle.outside.specs.Cause.{HasCause};
+ghost use Rattle.outside.specs.Files.{HasBytes, IsFile, range_of};
+ghost use Rattle.outside.specs.Told.{Extended};
+ghost use Rattle.outside.specs.declared.file_ref.FileRange.{FileRange};
+
+use crate::run::llapd;
+use crate::status::Status;
+use outside::{Bytes, Failed, FileRef, MemorySink, MemorySource, OpenGate, RealWorld, Store};
+use std::alloc::Global;
+use std::test::Fail;
+
+/// The store of one file, `t.orc`. It never fails, and leaves as it was what is read past the file's end.
+#[derive(Drop)]
+struct OneFile<'a> {
+    bytes: &'a [u8],
+}
+
+impl<'a> Store<RealWorld> for OneFile<'a> {
+    ghost reads = { λ _. None };
+
+    ghost fault_count = { λ _. 0 };
+
+    fn find(&mut self, name: &str) -> Result<Option<FileRef>, Failed> {
+        if name != "t.orc" {
+            return Ok(None);
+        }
+        Ok(Some(FileRef {
+            number: 0,
+            len: self.bytes.len() as u64,
+        }))
+    }
+
+    fn read_at(&mut self, file: FileRef, at: u64, into: &mut [u8]) -> Result<(), Failed>
+        requires in_range { at + length into.old ≤ file.len }
+        requires is_file { IsFile None file }
+        ensures bytes { OnOk result ((bytes : List ℕ) → HasBytes None file bytes
+            → into.new ≡ slice_range bytes at (at + length into.new)) }
+        ensures reads { OnOk result (Extended {A = FileRange} None None (range_of file at (length into.new) ∷ [])) }
+        ensures refused { OnErr result (◌≡◌ {A = Option (List FileRange)} None None) }
+        ensures cause { HasCause 0 0 result }
+    {
+        let start = at as usize;
+        if let Some(part) = self.bytes.get(start..start + into.len()) {
+            into.copy_from_slice(part);
+        }
+        Ok(())
+    }
+
+    fn faults(&self) -> u64 {
+        0
+    }
+}
+
+/// A call: its words, its plan, which read of the plan and which write fail (0: none), and the file.
+#[derive(Clone, Copy)]
+struct Call<'a> {
+    words: &'a [&'a str],
+    plan: &'a str,
+    failing_read: u64,
+    failing_write: u64,
+    file: &'a [u8],
+}
+
+/// The plan of most calls.
+const PLAN: &str = "s sum x from t.orc";
+
+/// A call without words that sums the file's column, and in which nothing fails.
+fn sum_of(file: &[u8]) -> Call<'_> {
+    Call {
+        words: &[],
+        plan: PLAN,
+        failing_read: 0,
+        failing_write: 0,
+        file,
+    }
+}
+
+/// What a call answers, and the sink with what it wrote.
+fn answer(alloc: Global, call: &Call<'_>) -> Result<(Status, MemorySink), Fail> {
+    let plan = Bytes::new(call.plan.as_bytes().to_vec(alloc)?);
+    let mut source = MemorySource::new(plan, [call.failing_read].to_vec(alloc)?);
+    let mut store = OneFile { bytes: call.file };
+    let failing = [call.failing_write].to_vec(alloc)?;
+    let mut sink = MemorySink::new(alloc, failing, 200).map_err(|_| "memory")?;
+    let status = llapd::<RealWorld, _, _, _, _>(
+        alloc,
+        call.words,
+        &mut source,
+        &mut store,
+        Vec::new(alloc),
+        &mut sink,
+        &OpenGate,
+    );
+    Ok((status, sink))
+}
+
+/// Whether a call ends with that status, and writes just that text.
+fn answers(alloc: Global, call: &Call<'_>, status: Status, text: &str) -> Result<bool, Fail> {
+    let (answered, sink) = answer(alloc, call)?;
+    Ok(answered == status && sink.written() == Some(text.as_bytes()))
+}
+
+/// A file of one LONG column `x` in one stripe, with so many rows, compression and values as given.
+fn file_of(alloc: Global, values: &[u8], rows: u8, compression: u8) -> Result<Vec<u8>, Fail> {
+    let len = u8::try_from(values.len()).map_err(|_| "too many values")?;
+    // the stripe's footer, the stripe, the types, the number of rows, and the postscript with its length
+    let footer = [
+        10,
+        6,
+        8,
+        1,
+        16,
+        1,
+        24,
+        len,
+        18,
+        2,
+        8,
+        0,
+        18,
+        2,
+        8,
+        0,
+        26,
+        10,
+        8,
+        3,
+        16,
+        0,
+        24,
+        len,
+        32,
+        16,
+        40,
+        rows,
+        34,
+        8,
+        8,
+        12,
+        18,
+        1,
+        1,
+        26,
+        1,
+        b'x',
+        34,
+        2,
+        8,
+        4,
+        48,
+        rows,
+        8,
+        28,
+        16,
+        compression,
+        34,
+        2,
+        0,
+        12,
+        40,
+        0,
+        0x82,
+        0xF4,
+        3,
+        3,
+        b'O',
+        b'R',
+        b'C',
+        17,
+    ];
+    let mut file = b"ORC".as_slice().to_vec(alloc)?;
+    file.extend_from_slice(values)?;
+    file.extend_from_slice(&footer)?;
+    Ok(file)
+}
+
+#[test]
+fn a_call_answers_and_writes_its_line(rt: HostRuntime) -> Result<(), Fail> {
+    let alloc = rt.alloc();
+    let first = file_of(alloc, &[0x61, 0, 7], 100, 0)?;
+    let packed = file_of(alloc, &[0x61, 0, 7], 100, 1)?;
+    let down = file_of(alloc, &[0x61, 0xFF, 0x64], 100, 0)?;
+    let fits = [
+        0xFD, 0xFE, 0xFF, 0xFF, 0xFF, 0xFF, 0xFF, 0xFF, 0xFF, 0xFF, 1, 2, 1,
+    ];
+    let fits = file_of(alloc, &fits, 3, 0)?;
+    let leaves = [
+        0xFE, 0xFE, 0xFF, 0xFF, 0xFF, 0xFF, 0xFF, 0xFF, 0xFF, 0xFF, 1, 2,
+    ];
+    let leaves = file_of(alloc, &leaves, 2, 0)?;
+    let whole = first.as_slice();
+    let other = Call {
+        plan: "s sum x from u.orc",
+        ..sum_of(whole)
+    };
+    let count = Call {
+        plan: "s count from t.orc",
+        ..sum_of(whole)
+    };
+    let usage = Call {
+        words: &["--executors", "x"],
+        ..sum_of(whole)
+    };
+    let unread = Call {
+        failing_read: 1,
+        ..sum_of(whole)
+    };
+    let unwritten = Call {
+        failing_write: 1,
+        ..sum_of(whole)
+    };
+    let cases = [
+        (sum_of(whole), Status::Done, "s sum -400\n"),
+        (sum_of(down.as_slice()), Status::Done, "s sum 50\n"),
+        (
+            sum_of(fits.as_slice()),
+            Status::Done,
+            "s sum 9223372036854775807\n",
+        ),
+        (
+            sum_of(leaves.as_slice()),
+            Status::SomeFailed,
+            "s failed overflow\n",
+        ),
+        (
+            sum_of(packed.as_slice()),
+            Status::SomeFailed,
+            "s failed not built\n",
+        ),
+        (other, Status::SomeFailed, "s failed no file\n"),
+        (count, Status::BadPlan, "plan not built\n"),
+        (usage, Status::Usage, USAGE),
+        (unread, Status::PlanFault, ""),
+        (unwritten, Status::WriteFault, ""),
+    ];
+    for (call, status, text) in cases {
+        assert!(rt; answers(alloc, &call, status, text)?, "{status:?} {text}");
+    }
+    Ok(())
+}
+
+const USAGE: &str =
+    "usage: llapd [--min-block N] [--arenas N] [--sets N] [--executors N] [--io N] [--room N] [--half-life N] [--gen N] [--rows N]\n";
+
+/// The status and the line that a letter of a table below stands for.
+fn wanted(letter: u8) -> (Status, &'static str) {
+    match letter {
+        b's' => (Status::Done, "s sum -400\n"),
+        b'd' => (Status::Done, "s sum 628250\n"),
+        b'b' => (Status::Done, "s sum -6400\n"),
+        b'z' => (Status::Done, "s sum 0\n"),
+        b'e' => (Status::Done, "s sum null\n"),
+        _ => (Status::SomeFailed, "s failed not built\n"),
+    }
+}
+
+/// What is wanted of a file of which the byte at that place is 7F, and 0.
+const WITH_7F: &[u8] = b"ssssdb-----------s-------------------------------s------ss-s--------";
+
+const WITH_0: &[u8] = b"sss-sz---------s-s-s-s-----s-----e---------------s---s--ss-s--------";
+
+/// The first place at which the file with that byte doesn't answer what is wanted.
+fn first_wrong(alloc: Global, file: &[u8], byte: u8, table: &[u8]) -> Result<Option<usize>, Fail> {
+    for (place, letter) in table.iter().enumerate() {
+        let mut damaged = file.to_vec(alloc)?;
+        if let Some(hit) = damaged.get_mut(place) {
+            *hit = byte;
+        }
+        let (status, text) = wanted(*letter);
+        if !answers(alloc, &sum_of(damaged.as_slice()), status, text)? {
+            return Ok(Some(place));
+        }
+    }
+    Ok(None)
+}
+
+/// The first length, below the file's, to which it is cut and doesn't answer `not built`.
+fn first_wrong_cut(alloc: Global, file: &[u8]) -> Result<Option<usize>, Fail> {
+    for len in 0..file.len() {
+        let call = sum_of(&file[..len]);
+        if !answers(alloc, &call, Status::SomeFailed, "s failed not built\n")? {
+            return Ok(Some(len));
+        }
+    }
+    Ok(None)
+}
+
+#[test]
+fn a_damaged_file_is_what_it_means(rt: HostRuntime) -> Result<(), Fail> {
+    let alloc = rt.alloc();
+    let file = file_of(alloc, &[0x61, 0, 7], 100, 0)?;
+    assert_eq!(rt; file.len(), 68);
+    assert_eq!(rt; first_wrong(alloc, file.as_slice(), 0x7F, WITH_7F)?, None);
+    assert_eq!(rt; first_wrong(alloc, file.as_slice(), 0, WITH_0)?, None);
+    assert_eq!(rt; first_wrong_cut(alloc, file.as_slice())?, None);
+    Ok(())
+}
