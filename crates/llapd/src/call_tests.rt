@@ -102,77 +102,26 @@ fn answers(alloc: Global, call: &Call<'_>, status: Status, text: &str) -> Result
     Ok(answered == status && sink.written() == Some(text.as_bytes()))
 }
 
-/// A file of one LONG column `x` in one stripe, with so many rows, compression and values as given.
+/// What follows the values in a file of one LONG column `x` in one stripe: the stripe's footer, the stripe, the types,
+/// the number of rows, and the postscript with its length.
+const TAIL: [u8; 62] = [
+    10, 6, 8, 1, 16, 1, 24, 3, 18, 2, 8, 0, 18, 2, 8, 0, 26, 10, 8, 3, 16, 0, 24, 3, 32, 16, 40,
+    100, 34, 8, 8, 12, 18, 1, 1, 26, 1, 120, 34, 2, 8, 4, 48, 100, 8, 28, 16, 0, 34, 2, 0, 12, 40,
+    0, 130, 244, 3, 3, 79, 82, 67, 17,
+];
+
+/// A file with these values, so many rows and that compression.
 fn file_of(alloc: Global, values: &[u8], rows: u8, compression: u8) -> Result<Vec<u8>, Fail> {
     let len = u8::try_from(values.len()).map_err(|_| "too many values")?;
-    // the stripe's footer, the stripe, the types, the number of rows, and the postscript with its length
-    let footer = [
-        10,
-        6,
-        8,
-        1,
-        16,
-        1,
-        24,
-        len,
-        18,
-        2,
-        8,
-        0,
-        18,
-        2,
-        8,
-        0,
-        26,
-        10,
-        8,
-        3,
-        16,
-        0,
-        24,
-        len,
-        32,
-        16,
-        40,
-        rows,
-        34,
-        8,
-        8,
-        12,
-        18,
-        1,
-        1,
-        26,
-        1,
-        b'x',
-        34,
-        2,
-        8,
-        4,
-        48,
-        rows,
-        8,
-        28,
-        16,
-        compression,
-        34,
-        2,
-        0,
-        12,
-        40,
-        0,
-        0x82,
-        0xF4,
-        3,
-        3,
-        b'O',
-        b'R',
-        b'C',
-        17,
-    ];
+    let mut tail = TAIL;
+    tail[7] = len;
+    tail[23] = len;
+    tail[27] = rows;
+    tail[43] = rows;
+    tail[47] = compression;
     let mut file = b"ORC".as_slice().to_vec(alloc)?;
     file.extend_from_slice(values)?;
-    file.extend_from_slice(&footer)?;
+    file.extend_from_slice(&tail)?;
     Ok(file)
 }
 
