@@ -28,7 +28,7 @@ IsOfText PlanFault = ⊥
 IsOfText NoMemory = ⊥
 
 whole_answers : (call : Call) (before after : Option (List ℕ)) (text : List ℕ) (status : Status) → IsOfText status → Writes call status text
-  → Extended before after text → Answers call before after status
+    → Extended before after text → Answers call before after status
 whole_answers call before after text Done is writes extended = (text, writes, extended)
 whole_answers call before after text SomeFailed is writes extended = (text, writes, extended)
 whole_answers call before after text Usage is writes extended = (text, writes, extended)
@@ -38,20 +38,20 @@ whole_answers call before after text PlanFault is writes extended = absurd is
 whole_answers call before after text NoMemory is writes extended = absurd is
 
 written_answers : (call : Call) (before after : Option (List ℕ)) (text : List ℕ) (status result : Status) → IsOfText status → Writes call status text
-  → Written before after call.sink_faults call.sink_faults' text status result → Answers call before after result
+    → Written before after call.sink_faults call.sink_faults' text status result → Answers call before after result
 written_answers call before after text status result is writes (whole extended) = whole_answers call before after text status is writes extended
 written_answers call before after text status result is writes (failed n within extended rose) = (rose, (status, text, writes, (n, within, extended)))
 
 -- the words weren't good
 pub usage_answers : (call : Call) (before after : Option (List ℕ)) (text : List ℕ) (result : Status) → text ≡ usage_text → ¬ AreGoodWords call.words
-  → Written before after call.sink_faults call.sink_faults' text Usage result → Answers call before after result
+    → Written before after call.sink_faults call.sink_faults' text Usage result → Answers call before after result
 usage_answers call before after text result is bad done =
     written_answers call before after text Usage result tt (subst (λ (t : List ℕ). Writes call Usage t) (sym is) (usage bad)) done
 
 -- the plan wasn't one
 pub bad_plan_answers : (call : Call) (before after : Option (List ℕ)) (bytes text : List ℕ) (result : Status) → text ≡ bad_plan_text → AreGoodWords call.words
-  → GaveFront call.left call.left' most_read bytes → ((name column file : List ℕ) → IsSumPlan bytes name column file → ⊥)
-  → Written before after call.sink_faults call.sink_faults' text BadPlan result → Answers call before after result
+    → GaveFront call.left call.left' most_read bytes → ((name column file : List ℕ) → IsSumPlan bytes name column file → ⊥)
+    → Written before after call.sink_faults call.sink_faults' text BadPlan result → Answers call before after result
 bad_plan_answers call before after bytes text result is good read none done =
     written_answers call before after text BadPlan result tt (subst (λ (t : List ℕ). Writes call BadPlan t) (sym is) (bad_plan good read none)) done
 
@@ -73,11 +73,12 @@ line_is_short name column file a b c =
 plan_is_short : (bytes name column file : List ℕ) → IsSumPlan bytes name column file → length bytes ≤ 206
 plan_is_short bytes name column file plan = by_end plan.joined
   where
-  short : length (sum_line name column file) ≤ 205
-  short = line_is_short name column file plan.name_is.few plan.column_is.few plan.file_is.name_is.few
-  by_end : (bytes ≡ sum_line name column file) ⊎ (bytes ≡ sum_line name column file ++ 10 ∷ []) → length bytes ≤ 206
-  by_end (inl is) = omega (arith, short, ap (λ (xs : List ℕ). length xs) is)
-  by_end (inr is) = omega (arith, short, ap (λ (xs : List ℕ). length xs) is, length-append (sum_line name column file) (10 ∷ []))
+    short : length (sum_line name column file) ≤ 205
+    short = line_is_short name column file plan.name_is.few plan.column_is.few plan.file_is.name_is.few
+
+    by_end : (bytes ≡ sum_line name column file) ⊎ (bytes ≡ sum_line name column file ++ 10 ∷ []) → length bytes ≤ 206
+    by_end (inl is) = omega (arith, short, ap (λ (xs : List ℕ). length xs) is)
+    by_end (inr is) = omega (arith, short, ap (λ (xs : List ℕ). length xs) is, length-append (sum_line name column file) (10 ∷ []))
 
 -- so it was read whole
 read_whole : (left left' : Option (List ℕ)) (bytes name column file : List ℕ) → IsSumPlan bytes name column file → GaveFront left left' most_read bytes → IsReadWhole left left' bytes
@@ -89,12 +90,12 @@ read_whole left left' bytes name column file plan read all told =
 
 -- the fragment was run
 pub ran_answers : (call : Call) (before after : Option (List ℕ)) (bytes name column file : List ℕ) (result : Status) → AreGoodWords call.words
-  → GaveFront call.left call.left' most_read bytes → IsSumPlan bytes name column file
-  → Ran call.told call.store_faults call.store_faults' before after call.sink_faults call.sink_faults' name column file result → Answers call before after result
+    → GaveFront call.left call.left' most_read bytes → IsSumPlan bytes name column file
+    → Ran call.told call.store_faults call.store_faults' before after call.sink_faults call.sink_faults' name column file result → Answers call before after result
 ran_answers call before after bytes name column file result good read plan (refused same) = (good, same)
 ran_answers call before after bytes name column file result good read plan (wrote outcome has done) =
     written_answers call before after (line name outcome) (status_of outcome) result (status_is_of_text outcome)
-      (ran good (read_whole call.left call.left' bytes name column file plan read) plan has) done
+    (ran good (read_whole call.left call.left' bytes name column file plan read) plan has) done
 
 pub not_true : false ≡ true → ⊥
 not_true p = cc

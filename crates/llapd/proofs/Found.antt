@@ -28,29 +28,29 @@ stands_at : (number : ℕ) (name : List ℕ) (files : Files) (file : FileRef) �
 stands_at number name [] file is = absurd (cc)
 stands_at number name (f ∷ fs) file is = by_test (bytes_eq f.0 name) number name f fs file is (λ e. stands_at (number + 1) name fs file e)
   where
-  by_test : (here : Bool) (number : ℕ) (name : List ℕ) (f : File) (fs : Files) (file : FileRef)
-    → cond here (Some (record { number = number; len = length f.1 })) (found_from (number + 1) name fs) ≡ Some file
-    → (found_from (number + 1) name fs ≡ Some file → StandsAt (number + 1) fs file) → StandsAt number (f ∷ fs) file
-  by_test true number name f fs file is further =
-      let same : record { number = number; len = length f.1 } ≡ file = some_is is in
-      record {
-        place = 0;
-        name = f.0;
-        bytes = f.1;
-        number_is = sym (ap (λ (x : FileRef). x.number) same) ∙ omega arith;
-        entry_is = refl;
-        len_is = sym (ap (λ (x : FileRef). x.len) same);
-      }
-  by_test false number name f fs file is further =
-      let s = further is in
-      record {
-        place = s.place + 1;
-        name = s.name;
-        bytes = s.bytes;
-        number_is = s.number_is ∙ omega arith;
-        entry_is = next_entry f fs s.place (Some (s.name, s.bytes)) s.entry_is;
-        len_is = s.len_is;
-      }
+    by_test : (here : Bool) (number : ℕ) (name : List ℕ) (f : File) (fs : Files) (file : FileRef)
+        → cond here (Some (record { number = number; len = length f.1 })) (found_from (number + 1) name fs) ≡ Some file
+        → (found_from (number + 1) name fs ≡ Some file → StandsAt (number + 1) fs file) → StandsAt number (f ∷ fs) file
+    by_test true number name f fs file is further =
+        let same : record { number = number; len = length f.1 } ≡ file = some_is is in
+        record {
+          place = 0;
+          name = f.0;
+          bytes = f.1;
+          number_is = sym (ap (λ (x : FileRef). x.number) same) ∙ omega arith;
+          entry_is = refl;
+          len_is = sym (ap (λ (x : FileRef). x.len) same);
+        }
+    by_test false number name f fs file is further =
+        let s = further is in
+        record {
+          place = s.place + 1;
+          name = s.name;
+          bytes = s.bytes;
+          number_is = s.number_is ∙ omega arith;
+          entry_is = next_entry f fs s.place (Some (s.name, s.bytes)) s.entry_is;
+          len_is = s.len_is;
+        }
 
 placed_at : (files : Files) (file : FileRef) (s : StandsAt 0 files file) → bytes_of (Some files) file.number ≡ Some s.bytes
 placed_at files file s =
@@ -70,7 +70,7 @@ found_is_file (Some files) name file is told = found_has_bytes name files file (
 
 -- and what is found is what is found in its bytes
 pub found_there : (files : Files) (name column : List ℕ) (file : FileRef) (bytes : List ℕ) → Some file ≡ file_named name files → HasBytes (Some files) file bytes
-  → found files name column ≡ found_in column bytes
+    → found files name column ≡ found_in column bytes
 found_there files name column file bytes named has =
     ap (λ (f : Option FileRef). found_bytes column (bytes_at files f)) (sym named) ∙ ap (λ (b : Option (List ℕ)). found_bytes column b) has.bytes_are
 

@@ -64,9 +64,9 @@ spells_one : (stream rest rest' : List ℕ) (values values' : List ℤ) → leng
 spells_one stream rest rest' values values' len (held, at) (held', at') =
     by_fronts (agree rest rest' (Fewest-joined (IntRun1 true) at.fewest) (Fewest-joined (IntRun1 true) at'.fewest) (sym at.parts ∙ at'.parts))
   where
-  by_fronts : AreFronts (values ++ held) (values' ++ held') → values ≡ values'
-  by_fronts (inl (more, is)) = same_front values values' (held ++ more) held' len (sym (append_assoc values held more) ∙ is)
-  by_fronts (inr (more, is)) = sym (same_front values' values (held' ++ more) held (sym len) (sym (append_assoc values' held' more) ∙ is))
+    by_fronts : AreFronts (values ++ held) (values' ++ held') → values ≡ values'
+    by_fronts (inl (more, is)) = same_front values values' (held ++ more) held' len (sym (append_assoc values held more) ∙ is)
+    by_fronts (inr (more, is)) = sym (same_front values' values (held' ++ more) held (sym len) (sym (append_assoc values' held' more) ∙ is))
 
 one_total : (values : List ℤ) (o p : Outcome) → IsTotal values o → IsTotal values p → o ≡ p
 one_total values (Sum None) (Sum None) a b = refl

@@ -25,7 +25,7 @@ tail_decided column bytes e is = ap (λ (t : Result Tail TailFault). found_tail 
 
 -- the tail wasn't read
 pub tail_stops : (file : FileRef) (column bytes : List ℕ) (e : TailFault) (entries : List ReadEntry)
-  → Fits ending (tail_plan file bytes) (Err e) entries → Locates bytes (found_in column bytes) (Err (stop_of e))
+    → Fits ending (tail_plan file bytes) (Err e) entries → Locates bytes (found_in column bytes) (Err (stop_of e))
 unfolding tail_plan
 tail_stops file column bytes fault.TooShort entries fits = tail_decided column bytes fault.TooShort fits.answer_is
 tail_stops file column bytes fault.NotOrc entries fits = tail_decided column bytes fault.NotOrc fits.answer_is
@@ -41,7 +41,7 @@ tail_stops file column bytes fault.NoMemory entries fits = tt
 
 -- the tail was read
 pub tail_found : (file : FileRef) (column bytes : List ℕ) (parts : Tail) (entries : List ReadEntry)
-  → Fits ending (tail_plan file bytes) (Ok parts) entries → found_in column bytes ≡ found_stripe bytes (column_named column parts.columns) parts.stripes
+    → Fits ending (tail_plan file bytes) (Ok parts) entries → found_in column bytes ≡ found_stripe bytes (column_named column parts.columns) parts.stripes
 unfolding tail_plan
 tail_found file column bytes parts entries fits = ap (λ (t : Result Tail TailFault). found_tail column bytes t) fits.answer_is
 
@@ -59,38 +59,38 @@ no_long bytes None stripes none = refl
 no_long bytes (Some column) [] none = refl
 no_long bytes (Some column) (stripe ∷ []) none = no_kind (column.kind == 4) bytes stripe column none
   where
-  no_kind : (long : Bool) (bytes : List ℕ) (stripe : Stripe) (column : TopColumn) → if_long long stripe column.number ≡ None → (if long then found_footer bytes stripe column.number (stripe_footer bytes stripe) else not_built) ≡ not_built
-  no_kind true bytes stripe column none = absurd (cc)
-  no_kind false bytes stripe column none = refl
+    no_kind : (long : Bool) (bytes : List ℕ) (stripe : Stripe) (column : TopColumn) → if_long long stripe column.number ≡ None → (if long then found_footer bytes stripe column.number (stripe_footer bytes stripe) else not_built) ≡ not_built
+    no_kind true bytes stripe column none = absurd (cc)
+    no_kind false bytes stripe column none = refl
 no_long bytes (Some column) (stripe ∷ another ∷ others) none = refl
 
 -- there is one stripe and a LONG column
 pub the_long : (bytes : List ℕ) (column : Option TopColumn) (stripes : List Stripe) (stripe : Stripe) (number : ℕ)
-  → one_long column stripes ≡ Some (stripe, number) → found_stripe bytes column stripes ≡ found_footer bytes stripe number (stripe_footer bytes stripe)
+    → one_long column stripes ≡ Some (stripe, number) → found_stripe bytes column stripes ≡ found_footer bytes stripe number (stripe_footer bytes stripe)
 the_long bytes None stripes stripe number some = absurd (cc)
 the_long bytes (Some column) [] stripe number some = absurd (cc)
 the_long bytes (Some column) (only ∷ []) stripe number some = the_kind (column.kind == 4) bytes only column stripe number some
   where
-  the_kind : (long : Bool) (bytes : List ℕ) (only : Stripe) (column : TopColumn) (stripe : Stripe) (number : ℕ) → if_long long only column.number ≡ Some (stripe, number)
-    → (if long then found_footer bytes only column.number (stripe_footer bytes only) else not_built) ≡ found_footer bytes stripe number (stripe_footer bytes stripe)
-  the_kind true bytes only column stripe number some =
-      let same : only ≡ stripe = ap (λ (p : Stripe × ℕ). p.0) (some_is some) in
-      let place : column.number ≡ number = ap (λ (p : Stripe × ℕ). p.1) (some_is some) in
-      ap (λ (s : Stripe). found_footer bytes s column.number (stripe_footer bytes s)) same ∙ ap (λ (n : ℕ). found_footer bytes stripe n (stripe_footer bytes stripe)) place
-  the_kind false bytes only column stripe number some = absurd (cc)
+    the_kind : (long : Bool) (bytes : List ℕ) (only : Stripe) (column : TopColumn) (stripe : Stripe) (number : ℕ) → if_long long only column.number ≡ Some (stripe, number)
+        → (if long then found_footer bytes only column.number (stripe_footer bytes only) else not_built) ≡ found_footer bytes stripe number (stripe_footer bytes stripe)
+    the_kind true bytes only column stripe number some =
+        let same : only ≡ stripe = ap (λ (p : Stripe × ℕ). p.0) (some_is some) in
+        let place : column.number ≡ number = ap (λ (p : Stripe × ℕ). p.1) (some_is some) in
+        ap (λ (s : Stripe). found_footer bytes s column.number (stripe_footer bytes s)) same ∙ ap (λ (n : ℕ). found_footer bytes stripe n (stripe_footer bytes stripe)) place
+    the_kind false bytes only column stripe number some = absurd (cc)
 the_long bytes (Some column) (one ∷ another ∷ others) stripe number some = absurd (cc)
 
 -- and it is the only one
 pub the_stripe : (column : Option TopColumn) (stripes : List Stripe) (stripe : Stripe) (number : ℕ)
-  → one_long column stripes ≡ Some (stripe, number) → (others : List Stripe) × (stripes ≡ stripe ∷ others)
+    → one_long column stripes ≡ Some (stripe, number) → (others : List Stripe) × (stripes ≡ stripe ∷ others)
 the_stripe None stripes stripe number some = absurd (cc)
 the_stripe (Some column) [] stripe number some = absurd (cc)
 the_stripe (Some column) (only ∷ []) stripe number some = the_kind (column.kind == 4) only column stripe number some
   where
-  the_kind : (long : Bool) (only : Stripe) (column : TopColumn) (stripe : Stripe) (number : ℕ) → if_long long only column.number ≡ Some (stripe, number)
-    → (others : List Stripe) × (◌≡◌ {A = List Stripe} (only ∷ []) (stripe ∷ others))
-  the_kind true only column stripe number some = ([], ap (λ (p : Stripe × ℕ). p.0 ∷ []) (some_is some))
-  the_kind false only column stripe number some = absurd (cc)
+    the_kind : (long : Bool) (only : Stripe) (column : TopColumn) (stripe : Stripe) (number : ℕ) → if_long long only column.number ≡ Some (stripe, number)
+        → (others : List Stripe) × (◌≡◌ {A = List Stripe} (only ∷ []) (stripe ∷ others))
+    the_kind true only column stripe number some = ([], ap (λ (p : Stripe × ℕ). p.0 ∷ []) (some_is some))
+    the_kind false only column stripe number some = absurd (cc)
 the_stripe (Some column) (one ∷ another ∷ others) stripe number some = absurd (cc)
 
 -- ---- the stripe's footer
@@ -100,7 +100,7 @@ footer_decided bytes stripe number e is = ap (λ (f : Result StripeFooter TailFa
 
 -- the footer wasn't read
 pub footer_stops : (file : FileRef) (bytes : List ℕ) (stripe : Stripe) (number : ℕ) (e : TailFault) (entries : List ReadEntry)
-  → Fits ending (stripe_footer_plan file stripe bytes) (Err e) entries → Locates bytes (found_footer bytes stripe number (stripe_footer bytes stripe)) (Err (stop_of e))
+    → Fits ending (stripe_footer_plan file stripe bytes) (Err e) entries → Locates bytes (found_footer bytes stripe number (stripe_footer bytes stripe)) (Err (stop_of e))
 unfolding stripe_footer_plan
 footer_stops file bytes stripe number fault.TooShort entries fits = footer_decided bytes stripe number fault.TooShort fits.answer_is
 footer_stops file bytes stripe number fault.NotOrc entries fits = footer_decided bytes stripe number fault.NotOrc fits.answer_is
@@ -116,7 +116,7 @@ footer_stops file bytes stripe number fault.NoMemory entries fits = tt
 
 -- the footer was read
 pub footer_found : (file : FileRef) (bytes : List ℕ) (stripe : Stripe) (number : ℕ) (footer : StripeFooter) (entries : List ReadEntry)
-  → Fits ending (stripe_footer_plan file stripe bytes) (Ok footer) entries → found_footer bytes stripe number (stripe_footer bytes stripe) ≡ found_streams bytes stripe.rows number footer
+    → Fits ending (stripe_footer_plan file stripe bytes) (Ok footer) entries → found_footer bytes stripe number (stripe_footer bytes stripe) ≡ found_streams bytes stripe.rows number footer
 unfolding stripe_footer_plan
 footer_found file bytes stripe number footer entries fits = ap (λ (f : Result StripeFooter TailFault). found_footer bytes stripe number f) fits.answer_is
 
@@ -129,11 +129,11 @@ if_direct direct present d = if direct then (if present then None else Some (str
 pub no_direct : (bytes : List ℕ) (rows number : ℕ) (footer : StripeFooter) → direct_span number footer ≡ None → found_streams bytes rows number footer ≡ not_built
 no_direct bytes rows number footer none = by_tests (is_direct (slice_get footer.encodings number)) (has_bytes (first_stream 0 number footer.streams)) bytes rows (first_stream 1 number footer.streams) none
   where
-  by_tests : (direct present : Bool) (bytes : List ℕ) (rows : ℕ) (d : Option StreamRange) → if_direct direct present d ≡ None
-    → (if direct then (if present then not_built else values_in rows (stream_bytes bytes d)) else not_built) ≡ not_built
-  by_tests true true bytes rows d none = refl
-  by_tests true false bytes rows d none = absurd (cc)
-  by_tests false present bytes rows d none = refl
+    by_tests : (direct present : Bool) (bytes : List ℕ) (rows : ℕ) (d : Option StreamRange) → if_direct direct present d ≡ None
+        → (if direct then (if present then not_built else values_in rows (stream_bytes bytes d)) else not_built) ≡ not_built
+    by_tests true true bytes rows d none = refl
+    by_tests true false bytes rows d none = absurd (cc)
+    by_tests false present bytes rows d none = refl
 
 bytes_in_span : (bytes : List ℕ) (d : Option StreamRange) (at len : ℕ) → stream_span d ≡ (at, len) → stream_bytes bytes d ≡ slice_range bytes at (at + len)
 bytes_in_span bytes None at len is = ap (λ (span : ℕ × ℕ). slice_range bytes span.0 (span.0 + span.1)) is
@@ -141,41 +141,42 @@ bytes_in_span bytes (Some s) at len is = ap (λ (span : ℕ × ℕ). slice_range
 
 -- the values lie there
 pub the_direct : (bytes : List ℕ) (rows number : ℕ) (footer : StripeFooter) (at len : ℕ) → direct_span number footer ≡ Some (at, len)
-  → found_streams bytes rows number footer ≡ values_in rows (slice_range bytes at (at + len))
+    → found_streams bytes rows number footer ≡ values_in rows (slice_range bytes at (at + len))
 the_direct bytes rows number footer at len some = by_tests (is_direct (slice_get footer.encodings number)) (has_bytes (first_stream 0 number footer.streams)) bytes rows (first_stream 1 number footer.streams) at len some
   where
-  by_tests : (direct present : Bool) (bytes : List ℕ) (rows : ℕ) (d : Option StreamRange) (at len : ℕ) → if_direct direct present d ≡ Some (at, len)
-    → (if direct then (if present then not_built else values_in rows (stream_bytes bytes d)) else not_built) ≡ values_in rows (slice_range bytes at (at + len))
-  by_tests true true bytes rows d at len some = absurd (cc)
-  by_tests true false bytes rows d at len some = ap (λ (xs : List ℕ). values_in rows xs) (let is : stream_span d ≡ (at, len) = some_is some in bytes_in_span bytes d at len is)
-  by_tests false present bytes rows d at len some = absurd (cc)
+    by_tests : (direct present : Bool) (bytes : List ℕ) (rows : ℕ) (d : Option StreamRange) (at len : ℕ) → if_direct direct present d ≡ Some (at, len)
+        → (if direct then (if present then not_built else values_in rows (stream_bytes bytes d)) else not_built) ≡ values_in rows (slice_range bytes at (at + len))
+    by_tests true true bytes rows d at len some = absurd (cc)
+    by_tests true false bytes rows d at len some = ap (λ (xs : List ℕ). values_in rows xs) (let is : stream_span d ≡ (at, len) = some_is some in bytes_in_span bytes d at len is)
+    by_tests false present bytes rows d at len some = absurd (cc)
 
 -- a stream that is found lies before the limit
 within_limit : (p : StreamRange → Bool) (at limit : ℕ) (streams : List StreamRange) (s : StreamRange) → FollowEachOther at limit streams → find p streams ≡ Some s → s.at + s.len ≤ limit
 within_limit p at limit [] s follow is = absurd (cc)
 within_limit p at limit (x ∷ xs) s follow is = by_test (p x) p x xs s limit follow.1 is (λ e. within_limit p (x.at + x.len) limit xs s follow.2 e)
   where
-  by_test : (here : Bool) (p : StreamRange → Bool) (x : StreamRange) (xs : List StreamRange) (s : StreamRange) (limit : ℕ) → x.at + x.len ≤ limit → (if here then Some x else find p xs) ≡ Some s
-    → (find p xs ≡ Some s → s.at + s.len ≤ limit) → s.at + s.len ≤ limit
-  by_test true p x xs s limit fits is further = let same : x ≡ s = cc in subst (λ (y : StreamRange). y.at + y.len ≤ limit) same fits
-  by_test false p x xs s limit fits is further = further is
+    by_test : (here : Bool) (p : StreamRange → Bool) (x : StreamRange) (xs : List StreamRange) (s : StreamRange) (limit : ℕ) → x.at + x.len ≤ limit → (if here then Some x else find p xs) ≡ Some s
+        → (find p xs ≡ Some s → s.at + s.len ≤ limit) → s.at + s.len ≤ limit
+    by_test true p x xs s limit fits is further = let same : x ≡ s = cc in subst (λ (y : StreamRange). y.at + y.len ≤ limit) same fits
+    by_test false p x xs s limit fits is further = further is
 
 -- so the values lie before the limit
 pub direct_within : (number : ℕ) (footer : StripeFooter) (begin limit at len : ℕ) → FollowEachOther begin limit footer.streams → direct_span number footer ≡ Some (at, len) → at + len ≤ limit
 direct_within number footer begin limit at len follow some = by_tests (is_direct (slice_get footer.encodings number)) (has_bytes (first_stream 0 number footer.streams)) (first_stream 1 number footer.streams) at len limit some (λ s e. within_limit (λ s. s.kind == 1 && s.column == number) begin limit footer.streams s follow e)
   where
-  by_span : (d : Option StreamRange) (at len limit : ℕ) → stream_span d ≡ (at, len) → ((s : StreamRange) → d ≡ Some s → s.at + s.len ≤ limit) → at + len ≤ limit
-  by_span None at len limit is fits = subst (λ (span : ℕ × ℕ). span.0 + span.1 ≤ limit) is (omega arith)
-  by_span (Some s) at len limit is fits = subst (λ (span : ℕ × ℕ). span.0 + span.1 ≤ limit) is (fits s refl)
-  by_tests : (direct present : Bool) (d : Option StreamRange) (at len limit : ℕ) → if_direct direct present d ≡ Some (at, len)
-    → ((s : StreamRange) → d ≡ Some s → s.at + s.len ≤ limit) → at + len ≤ limit
-  by_tests true true d at len limit some fits = absurd (cc)
-  by_tests true false d at len limit some fits = let is : stream_span d ≡ (at, len) = some_is some in by_span d at len limit is fits
-  by_tests false present d at len limit some fits = absurd (cc)
+    by_span : (d : Option StreamRange) (at len limit : ℕ) → stream_span d ≡ (at, len) → ((s : StreamRange) → d ≡ Some s → s.at + s.len ≤ limit) → at + len ≤ limit
+    by_span None at len limit is fits = subst (λ (span : ℕ × ℕ). span.0 + span.1 ≤ limit) is (omega arith)
+    by_span (Some s) at len limit is fits = subst (λ (span : ℕ × ℕ). span.0 + span.1 ≤ limit) is (fits s refl)
+
+    by_tests : (direct present : Bool) (d : Option StreamRange) (at len limit : ℕ) → if_direct direct present d ≡ Some (at, len)
+        → ((s : StreamRange) → d ≡ Some s → s.at + s.len ≤ limit) → at + len ≤ limit
+    by_tests true true d at len limit some fits = absurd (cc)
+    by_tests true false d at len limit some fits = let is : stream_span d ≡ (at, len) = some_is some in by_span d at len limit is fits
+    by_tests false present d at len limit some fits = absurd (cc)
 
 -- the one stripe ends in the file, as all do
 pub the_stripe_ends : (column : Option TopColumn) (stripes : List Stripe) (stripe : Stripe) (number len : ℕ) → one_long column stripes ≡ Some (stripe, number)
-  → All (λ (s : Stripe). stripe_end s ≤ len) stripes → stripe_end stripe ≤ len
+    → All (λ (s : Stripe). stripe_end s ≤ len) stripes → stripe_end stripe ≤ len
 the_stripe_ends column stripes stripe number len some all =
     let parts = the_stripe column stripes stripe number some in
     let these : All (λ (s : Stripe). stripe_end s ≤ len) (stripe ∷ parts.0) = subst (λ (xs : List Stripe). All (λ (s : Stripe). stripe_end s ≤ len) xs) parts.1 all in

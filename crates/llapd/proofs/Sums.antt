@@ -32,14 +32,14 @@ total_of-append values more = fold-append ◌+ℤ◌ (pos 0) values more
 
 -- a batch more was given
 pub sum_goes_on : {T : Type 0} (stream : List ℕ) (given asked n : ℕ) (total sum : ℤ) (before held out : List ℤ) (first last : Option (List ℕ)) (result : Result T RunFault)
-  → is_err result ≡ false
-  → ((bytes : List ℕ) → first ≡ Some bytes → Continues (IntRun1 true) (int_run1 true) before held asked bytes last (placed out result))
-  → n ≡ length out → sum ≡ fold ◌+ℤ◌ total out
-  → SummedSoFar stream given total before first → SummedSoFar stream (given + n) sum held last
+    → is_err result ≡ false
+    → ((bytes : List ℕ) → first ≡ Some bytes → Continues (IntRun1 true) (int_run1 true) before held asked bytes last (placed out result))
+    → n ≡ length out → sum ≡ fold ◌+ℤ◌ total out
+    → SummedSoFar stream given total before first → SummedSoFar stream (given + n) sum held last
 sum_goes_on stream given asked n total sum before held out first last (Err fault) ok told len sum_is so_far = absurd (true_is_false ok)
   where
-  true_is_false : true ≡ false → ⊥
-  true_is_false p = cc
+    true_is_false : true ≡ false → ⊥
+    true_is_false p = cc
 sum_goes_on stream given asked n total sum before held out first last (Ok u) ok told len sum_is so_far =
     let after = told so_far.rest so_far.left_is in
     record {
@@ -52,15 +52,18 @@ sum_goes_on stream given asked n total sum before held out first last (Ok u) ok 
     }
 
 wider : (stream : List ℕ) (count rows : ℕ) (fault : RunFault) → count ≤ rows → Breaks (IntRun1 true) (int_run1 true) stream count fault → BreaksBefore rows stream
-wider stream count rows fault within b = (fault, record {
-  used = b.used;
-  rest = b.rest;
-  values = b.values;
-  parts = b.parts;
-  joined = b.joined;
-  fewer = omega (arith, b.fewer);
-  broken = b.broken;
-})
+wider stream count rows fault within b = (
+  fault,
+  record {
+    used = b.used;
+    rest = b.rest;
+    values = b.values;
+    parts = b.parts;
+    joined = b.joined;
+    fewer = omega (arith, b.fewer);
+    broken = b.broken;
+  },
+)
 
 breaks_within : (stream : List ℕ) (count rows : ℕ) (fault : RunFault) → (IsReadFault fault → ⊥) → count ≤ rows → BreaksWith (IntRun1 true) (int_run1 true) stream count fault → BreaksBefore rows stream
 breaks_within stream count rows StreamEnds no_read within b = wider stream count rows StreamEnds within b
@@ -75,14 +78,14 @@ never_rose (inr most) = omega arith
 
 -- a batch couldn't be given, by a feed that never fails
 pub sum_breaks : {T : Type 0} (stream : List ℕ) (given asked rows : ℕ) (total : ℤ) (before held out : List ℤ) (first last : Option (List ℕ)) (result : Result T RunFault)
-  → is_err result ≡ true → given + asked ≤ rows
-  → ((bytes : List ℕ) → first ≡ Some bytes → Continues (IntRun1 true) (int_run1 true) before held asked bytes last (placed out result))
-  → Cause 0 0 (IsErrAnd (placed out result) IsReadFault)
-  → SummedSoFar stream given total before first → BreaksBefore rows stream
+    → is_err result ≡ true → given + asked ≤ rows
+    → ((bytes : List ℕ) → first ≡ Some bytes → Continues (IntRun1 true) (int_run1 true) before held asked bytes last (placed out result))
+    → Cause 0 0 (IsErrAnd (placed out result) IsReadFault)
+    → SummedSoFar stream given total before first → BreaksBefore rows stream
 sum_breaks stream given asked rows total before held out first last (Ok u) err within told cause so_far = absurd (false_is_true err)
   where
-  false_is_true : false ≡ true → ⊥
-  false_is_true p = cc
+    false_is_true : false ≡ true → ⊥
+    false_is_true p = cc
 sum_breaks stream given asked rows total before held out first last (Err fault) err within told cause so_far =
     breaks_within stream (length so_far.values + asked) rows fault (λ read. never_rose (cause.failed read)) (omega (arith, so_far.count)) (told so_far.rest so_far.left_is stream so_far.values so_far.between)
 
@@ -100,8 +103,8 @@ pub no_fault : {T E : Type 0} (result : Result T E) → is_err result ≡ false 
 no_fault (Ok u) ok = refl
 no_fault (Err fault) ok = absurd (true_is_false ok)
   where
-  true_is_false : true ≡ false → ⊥
-  true_is_false p = cc
+    true_is_false : true ≡ false → ⊥
+    true_is_false p = cc
 
 no_values : (values : List ℤ) → length values ≡ 0 → values ≡ []
 no_values [] len = refl

@@ -53,10 +53,10 @@ pub record Call : Type 0 where
 pub data Writes (call : Call) : Status → List ℕ → Type 0 where
   usage : ¬ AreGoodWords call.words → Writes call Usage usage_text
   bad_plan : {bytes : List ℕ} → AreGoodWords call.words → GaveFront call.left call.left' most_read bytes
-    → ((name column file : List ℕ) → IsSumPlan bytes name column file → ⊥) → Writes call BadPlan bad_plan_text
+      → ((name column file : List ℕ) → IsSumPlan bytes name column file → ⊥) → Writes call BadPlan bad_plan_text
   ran : {bytes name column file : List ℕ} {outcome : Outcome} → AreGoodWords call.words → IsReadWhole call.left call.left' bytes
-    → IsSumPlan bytes name column file → HasOutcome call.told call.store_faults call.store_faults' file column outcome
-    → Writes call (status_of outcome) (line name outcome)
+      → IsSumPlan bytes name column file → HasOutcome call.told call.store_faults call.store_faults' file column outcome
+      → Writes call (status_of outcome) (line name outcome)
 
 -- the whole text was written
 abbrev pub Wrote : Call → Status → Option (List ℕ) → Option (List ℕ) → Type 0

@@ -37,8 +37,8 @@ is_direct (Some encoding) = encoding.kind == 0
 abbrev pub found_streams : List ℕ → ℕ → ℕ → StripeFooter → Found
 found_streams file rows column footer =
     if is_direct (slice_get footer.encodings column) then
-      (if has_bytes (first_stream 0 column footer.streams) then not_built
-       else values_in rows (stream_bytes file (first_stream 1 column footer.streams)))
+    (if has_bytes (first_stream 0 column footer.streams) then not_built
+    else values_in rows (stream_bytes file (first_stream 1 column footer.streams)))
     else not_built
 
 abbrev pub found_footer : List ℕ → Stripe → ℕ → Result StripeFooter TailFault → Found

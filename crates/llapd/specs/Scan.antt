@@ -43,7 +43,7 @@ stream_span (Some stream) = (stream.at, stream.len)
 abbrev pub direct_span : ℕ → StripeFooter → Option (ℕ × ℕ)
 direct_span column footer =
     if is_direct (slice_get footer.encodings column) then
-      (if has_bytes (first_stream 0 column footer.streams) then None else Some (stream_span (first_stream 1 column footer.streams)))
+    (if has_bytes (first_stream 0 column footer.streams) then None else Some (stream_span (first_stream 1 column footer.streams)))
     else None
 
 -- this is where the values lie that a file's bytes have, unless a read failed or memory was refused

@@ -18,4 +18,4 @@ pub data Written (before after : Option (List ℕ)) (faults faults' : ℕ) (text
 pub data Ran (told : Option Files) (store store' : ℕ) (before after : Option (List ℕ)) (faults faults' : ℕ) (name column file : List ℕ) : Status → Type 0 where
   refused : after ≡ before → Ran told store store' before after faults faults' name column file NoMemory
   wrote : {answer : Status} (outcome : Outcome) → HasOutcome told store store' file column outcome
-    → Written before after faults faults' (line name outcome) (status_of outcome) answer → Ran told store store' before after faults faults' name column file answer
+      → Written before after faults faults' (line name outcome) (status_of outcome) answer → Ran told store store' before after faults faults' name column file answer

@@ -4,11 +4,9 @@ ghost use Rattle.llapd.specs.Laws.{IsOneMeaning, EachPlanIsOne};
 /// What a scan finds of its column means one outcome.
 pub fn a_scan_means_one_outcome()
     ensures { IsOneMeaning }
-{
-}
+{}
 
 /// The bytes of a plan determine the names in it.
 pub fn a_plan_is_one()
     ensures { EachPlanIsOne }
-{
-}
+{}

@@ -32,7 +32,9 @@ use words::usage_line;
 
 /// Exit statuses that are `main`'s own.
 const FOLDER_FAULT: u8 = 6;
+
 const NO_MEMORY: u8 = 7;
+
 const TOO_MANY_FILES: u8 = 8;
 
 fn main(rt: HostRuntime) -> ExitCode {

@@ -78,16 +78,17 @@ pub fn llapd<W: World, P: Source, S: Store<W> + Send + Drop, K: Sink, G: Gate + 
 ) -> Status
     ensures { Answers
         (record {
-            told = W.files;
-            words = map (λ word. word.now) words.now;
-            left = P.left plan.old;
-            left' = P.left plan.new;
-            plan_faults = P.fault_count plan.old;
-            plan_faults' = P.fault_count plan.new;
-            store_faults = S.fault_count last.old;
-            store_faults' = S.fault_count last.new;
-            sink_faults = K.fault_count out.old;
-            sink_faults' = K.fault_count out.new })
+          told = W.files;
+          words = map (λ word. word.now) words.now;
+          left = P.left plan.old;
+          left' = P.left plan.new;
+          plan_faults = P.fault_count plan.old;
+          plan_faults' = P.fault_count plan.new;
+          store_faults = S.fault_count last.old;
+          store_faults' = S.fault_count last.new;
+          sink_faults = K.fault_count out.old;
+          sink_faults' = K.fault_count out.new;
+        })
         (K.content out.old) (K.content out.new) result }
 {
     if !are_good(words) {

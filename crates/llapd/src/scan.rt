@@ -12,16 +12,20 @@ ghost use Rattle.llapd.specs.Scan.{one_long, direct_span, Locates, Sees, IsReadS
 use crate::line::Outcome;
 use crate::stop::Stop;
 use crate::sum::sum_of_stream;
-use orc_tail::{Stripe, StripeFooter, Tail, column_named, read_stripe_footer, read_tail, stream_of};
+use orc_tail::{
+    Stripe, StripeFooter, Tail, column_named, read_stripe_footer, read_tail, stream_of,
+};
 use outside::{Bytes, FileRef, Name, NoMemory, RangeReader, Store, StoreReader, World};
 use std::alloc::Global;
 
 /// Streams that hold the bits of a column's nulls, and its values.
 const PRESENT: u64 = 0;
+
 const DATA: u64 = 1;
 
 /// The kind of a column of 64-bit numbers, and the encoding by runs of version 1.
 const LONG: u64 = 4;
+
 const DIRECT: u64 = 0;
 
 /// How many values a column has in a stripe, and where their stream lies, in bytes from the file's first.

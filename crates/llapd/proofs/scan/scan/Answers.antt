@@ -14,20 +14,20 @@ scan_found-requires-clause-is_file g c =
 pub returns-in-Ok-clause-told : goal.returns-in-Ok-clause-told
 returns-in-Ok-clause-told g c = λ files told no_fault.
     let named : Some c.in-Ok-Some.found ≡ file_named c.args.file.now files =
-      sym c.in-Ok-Some.field-0-is ∙ c.in-Ok-Some.ensures.found files told ∙ ap (λ (n : List ℕ). file_named n files) c.as_str.ensures in
+    sym c.in-Ok-Some.field-0-is ∙ c.in-Ok-Some.ensures.found files told ∙ ap (λ (n : List ℕ). file_named n files) c.as_str.ensures in
     let there = found_has_bytes c.args.file.now files c.in-Ok-Some.found (sym named) in
     let has = subst (λ (w : Option Files). HasBytes w c.in-Ok-Some.found there.0) (sym told) there.1 in
     let what = found_there files c.args.file.now c.args.column.now c.in-Ok-Some.found there.0 named there.1
-      ∙ ap (λ (n : List ℕ). found_in n there.0) (sym c.as_str-2.ensures) in
+    ∙ ap (λ (n : List ℕ). found_in n there.0) (sym c.as_str-2.ensures) in
     subst (λ (f : Found). Means f c.in-Ok.outcome) (sym what) (c.in-Ok.ensures.told there.0 has)
 
 pub returns-in-Err-NotBuilt-clause-told : goal.returns-in-Err-NotBuilt-clause-told
 returns-in-Err-NotBuilt-clause-told g c = λ files told no_fault.
     let named : Some c.in-Ok-Some.found ≡ file_named c.args.file.now files =
-      sym c.in-Ok-Some.field-0-is ∙ c.in-Ok-Some.ensures.found files told ∙ ap (λ (n : List ℕ). file_named n files) c.as_str.ensures in
+    sym c.in-Ok-Some.field-0-is ∙ c.in-Ok-Some.ensures.found files told ∙ ap (λ (n : List ℕ). file_named n files) c.as_str.ensures in
     let there = found_has_bytes c.args.file.now files c.in-Ok-Some.found (sym named) in
     let has = subst (λ (w : Option Files). HasBytes w c.in-Ok-Some.found there.0) (sym told) there.1 in
     let what = found_there files c.args.file.now c.args.column.now c.in-Ok-Some.found there.0 named there.1
-      ∙ ap (λ (n : List ℕ). found_in n there.0) (sym c.as_str-2.ensures) in
+    ∙ ap (λ (n : List ℕ). found_in n there.0) (sym c.as_str-2.ensures) in
     let sees = rw c.in-Err-NotBuilt.field-0-is at (c.in-Err-NotBuilt.ensures.told there.0 has) in
     not_built_means _ (what ∙ sees)

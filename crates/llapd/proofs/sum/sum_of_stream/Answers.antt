@@ -21,7 +21,7 @@ returns c =
           let small : FitsSigned w64 w.in-Ok-try_from.total = subst (λ (z : ℤ). FitsSigned w64 z) (sym tried.1) tried.0 in
           let back : to_z w64 (of_z w64 w.in-Ok-try_from.total) ≡ w.in-Ok-try_from.total = to_z-of_z w64 w.in-Ok-try_from.total small in
           outcome_some c.args.rows c.args.stream.now w.in-Some.field-0 (to_z w64 (of_z w64 w.in-Ok-try_from.total)) w.if-rows-eq0.false (back ∙ tried.1)
-            (subst (λ (z : ℤ). FitsSigned w64 z) (sym back) small) (sums c.args.stream.now told))
+          (subst (λ (z : ℤ). FitsSigned w64 z) (sym back) small) (sums c.args.stream.now told))
       | in-Some-2+in-Err w ↦ rw w.result-is (
           let sums = rw w.in-Some.is at c.total_of_runs.ensures.summed in
           let fits = rw w.in-Some.is at c.total_of_runs.ensures.fits in

@@ -22,7 +22,7 @@ returns-then-is_err-clause-broken c = λ stream told.
     let within : c.loop-given.given + length c.split_at_mut-out.result.0.now ≤ c.args.rows = omega (arith, c.split_at_mut-out.ensures.front_len) in
     let fills = rw (c.loop-given.invariant.signed, c.loop-given.invariant.stream) at (c.fill.ensures.fills c.loop-given.invariant.whole) in
     sum_breaks stream c.loop-given.given (length c.split_at_mut-out.result.0.now) c.args.rows _ c.loop-given.runs.held c.fill.new.self.held c.fill.new.out
-      (rest_of c.loop-given.feed 0) (rest_of c.fill.new.feed 0) c.fill.result failed within fills.told fills.cause (c.loop-given.invariant.summed stream told)
+    (rest_of c.loop-given.feed 0) (rest_of c.fill.new.feed 0) c.fill.result failed within fills.told fills.cause (c.loop-given.invariant.summed stream told)
 
 pub loop-given-preserved : goal.loop-given-preserved
 loop-given-preserved c =
@@ -37,7 +37,7 @@ loop-given-preserved c =
       low = omega (arith, ints, len, c.total_with-total.ensures.low);
       high = omega (arith, ints, len, c.total_with-total.ensures.high);
       summed = λ stream told. sum_goes_on stream c.loop-given.given (length c.split_at_mut-out.result.0.now) c.min-count.result _ _ c.loop-given.runs.held c.fill.new.self.held c.fill.new.out
-        (rest_of c.loop-given.feed 0) (rest_of c.fill.new.feed 0) c.fill.result ok fills.told len (grind (arith, ints, to_z-of_z, c.total_with-total.ensures.sum)) (c.loop-given.invariant.summed stream told);
+          (rest_of c.loop-given.feed 0) (rest_of c.fill.new.feed 0) c.fill.result ok fills.told len (grind (arith, ints, to_z-of_z, c.total_with-total.ensures.sum)) (c.loop-given.invariant.summed stream told);
     }
 
 pub returns-clause-summed : goal.returns-clause-summed
