@@ -125,6 +125,14 @@ fn file_of(alloc: Global, values: &[u8], rows: u8, compression: u8) -> Result<Ve
     Ok(file)
 }
 
+/// The file of 100 rows, with its stripe listed twice.
+const TWICE: [u8; 80] = [
+    79, 82, 67, 97, 0, 7, 10, 6, 8, 1, 16, 1, 24, 3, 18, 2, 8, 0, 18, 2, 8, 0, 26, 10, 8, 3, 16, 0,
+    24, 3, 32, 16, 40, 100, 26, 10, 8, 3, 16, 0, 24, 3, 32, 16, 40, 100, 34, 8, 8, 12, 18, 1, 1,
+    26, 1, 120, 34, 2, 8, 4, 48, 100, 8, 40, 16, 0, 34, 2, 0, 12, 40, 0, 130, 244, 3, 3, 79, 82,
+    67, 17,
+];
+
 #[test]
 fn a_call_answers_and_writes_its_line(rt: HostRuntime) -> Result<(), Fail> {
     let alloc = rt.alloc();
@@ -178,6 +186,7 @@ fn a_call_answers_and_writes_its_line(rt: HostRuntime) -> Result<(), Fail> {
             Status::SomeFailed,
             "s failed not built\n",
         ),
+        (sum_of(&TWICE), Status::SomeFailed, "s failed not built\n"),
         (other, Status::SomeFailed, "s failed no file\n"),
         (count, Status::BadPlan, "plan not built\n"),
         (usage, Status::Usage, USAGE),
