@@ -1,0 +1,4 @@
+//! Runs of integers, version 2.
+#![tactic(auto)]
+
+pub mod laws;
