@@ -3,10 +3,11 @@ use Rattle.std.proofs.Common.{◌≡◌, ℕ, zero, suc, ◌+◌, ◌-◌, ◌*�
 use Rattle.std.specs.List.{range_with_len}
 use Rattle.std.proofs.lemmas.List.{length-map, length-replicate}
 use Rattle.std.proofs.lemmas.List.FromFn.{length-map-range_with_len}
+use Rattle.orc_rle2.specs.declared.patches.Shape.{Shape}
 use Rattle.orc_rle2.specs.Integers.{integer, wrapped_sum, with_sign, sums, ramp}
 use Rattle.orc_rle2.specs.Packed.{unpacked, bits_to, number_of}
-use Rattle.orc_rle2.specs.Patches.{Shape, patched, only_moves, gap_of, patch_of, patched_value}
-use Rattle.orc_rle2.specs.IntRun2.{repeat_values, direct_values, above_base, varied, delta_values, patched_numbers, run_len}
+use Rattle.orc_rle2.specs.Patches.{patched, only_moves, gap_of, patch_of, patched_value}
+use Rattle.orc_rle2.specs.IntRun2.{repeat_values, above_base, varied, delta_values, patched_numbers, run_len}
 
 pub repeat-some : (signed : Bool) (first : ℕ) (body : List ℕ) → 0 < length (repeat_values signed first body)
 repeat-some signed first body = omega (arith, length-replicate (first % 8 + 3) (integer signed (number_of body)))
@@ -14,7 +15,7 @@ repeat-some signed first body = omega (arith, length-replicate (first % 8 + 3) (
 pub unpacked-length : (width count : ℕ) (bytes : List ℕ) → length (unpacked width count bytes) ≡ count
 unpacked-length width count bytes = length-map-range_with_len (λ i. bits_to bytes width (width * (i + 1))) 0 count
 
-pub direct-some : (signed : Bool) (width count : ℕ) (body : List ℕ) → 0 < count → 0 < length (direct_values signed width count body)
+pub direct-some : (signed : Bool) (width count : ℕ) (body : List ℕ) → 0 < count → 0 < length (map (integer signed) (unpacked width count body))
 direct-some signed width count body h = omega (arith, length-map (unpacked width count body) (integer signed), unpacked-length width count body)
 
 varied-some : (test : Bool) (base : ℤ) (others : List ℤ) → 0 < length (cond test (base ∷ []) (base ∷ others))
@@ -25,9 +26,9 @@ delta_by : (test : Bool) (some others : List ℤ) → 0 < length some → 0 < le
 delta_by true some others h k = h
 delta_by false some others h k = k
 
-pub delta-some : (base delta : ℤ) (code count : ℕ) (body : List ℕ) → 0 < count → 0 < length (delta_values base delta code count body)
-delta-some base delta code count body h =
-    delta_by (eqb code 0) (ramp base delta count) (varied base delta count (unpacked _ (count - 2) body))
+pub delta-some : (base delta : ℤ) (code count : ℕ) (magnitudes : List ℕ) → 0 < count → 0 < length (delta_values base delta code count magnitudes)
+delta-some base delta code count magnitudes h =
+    delta_by (eqb code 0) (ramp base delta count) (varied base delta count magnitudes)
     (omega (arith, length-map-range_with_len (λ i. wrapped_sum base (pos i *ℤ delta)) 0 count))
     (varied-some (eqb count 1) base _)
 

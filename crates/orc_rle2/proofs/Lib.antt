@@ -1,3 +1,7 @@
 pub mod Exactly
 pub mod Lengths
+pub mod Lists
+pub mod Masks
+pub mod Numbers
 pub mod RunReader
+pub mod Sums

@@ -6,9 +6,10 @@ use Rattle.std.specs.Prelude.{◌≡◌, ℕ, ◌+◌, ◌-◌, ◌*◌, ◌/◌
 use Rattle.outside.specs.declared.run_fault.RunFault.TheVariants.{StreamEnds, PatchOutOfRun, PatchTooWide}
 use Rattle.outside.specs.Reading.{Reader, bind, value, mapped, refusal, byte, exactly}
 use Rattle.outside.specs.Varint.{IsVarint, varint}
+use Rattle.orc_rle2.specs.declared.patches.Shape.{Shape}
 use Rattle.orc_rle2.specs.Integers.{integer, zigzag, sign_magnitude, wrapped_sum, ramp, with_sign, sums}
 use Rattle.orc_rle2.specs.Packed.{number_of, packed_len, unpacked}
-use Rattle.orc_rle2.specs.Patches.{Shape, patched}
+use Rattle.orc_rle2.specs.Patches.{patched}
 use Rattle.orc_rle2.specs.Widths.{width_of, least_width}
 
 -- ---- the header of direct, patched base and delta
@@ -26,23 +27,23 @@ run_len first second = 256 * (first % 2) + second + 1
 abbrev pub repeat_values : Bool → ℕ → List ℕ → List ℤ
 repeat_values signed first body = replicate (first % 8 + 3) (integer signed (number_of body))
 
-abbrev pub direct_values : Bool → ℕ → ℕ → List ℕ → List ℤ
-direct_values signed width count body = map (integer signed) (unpacked width count body)
-
 -- values that a base is added to
 abbrev pub above_base : ℤ → List ℕ → List ℤ
 above_base base numbers = map (λ number. wrapped_sum base (pos number)) numbers
 
--- code 0 means that there are no magnitudes
+-- the magnitudes behind the second value; code 0 means that there are none
 abbrev pub magnitude_len : ℕ → ℕ → ℕ
 magnitude_len code count = if code == 0 then 0 else packed_len (width_of code) (count - 2)
+
+abbrev pub magnitudes_in : ℕ → ℕ → List ℕ → List ℕ
+magnitudes_in code count body = if code == 0 then [] else unpacked (width_of code) (count - 2) body
 
 -- the base, then the base and the delta, and then with each magnitude one more
 abbrev pub varied : ℤ → ℤ → ℕ → List ℕ → List ℤ
 varied base delta count magnitudes = if count == 1 then base ∷ [] else base ∷ sums (wrapped_sum base delta) (map (with_sign delta) magnitudes)
 
 abbrev pub delta_values : ℤ → ℤ → ℕ → ℕ → List ℕ → List ℤ
-delta_values base delta code count body = if code == 0 then ramp base delta count else varied base delta count (unpacked (width_of code) (count - 2) body)
+delta_values base delta code count magnitudes = if code == 0 then ramp base delta count else varied base delta count magnitudes
 
 -- what the third and the fourth byte of a patched run say
 abbrev pub base_len : ℕ → ℕ
@@ -54,24 +55,24 @@ shape_of width third fourth = record { values = width; gaps = fourth / 32 + 1; p
 abbrev pub patch_count : ℕ → ℕ
 patch_count fourth = fourth % 32
 
-abbrev pub entry_len : Shape → ℕ → ℕ
-entry_len shape count = packed_len (least_width (shape.gaps + shape.patches)) count
+abbrev pub entry_width : Shape → ℕ
+entry_width shape = least_width (shape.gaps + shape.patches)
 
 abbrev pub patched_numbers : Shape → ℕ → ℕ → List ℕ → List ℕ → Option (List ℕ)
-patched_numbers shape patches count body entries = patched shape 0 (unpacked (least_width (shape.gaps + shape.patches)) patches entries) (unpacked shape.values count body)
+patched_numbers shape patches count body entries = patched shape 0 (unpacked (entry_width shape) patches entries) (unpacked shape.values count body)
 
 -- ---- the four forms
 
 pub data IntRun2 (signed : Bool) : List ℕ → List ℤ → Type 0 where
   short_repeat : (first : ℕ) (body : List ℕ) → first < 64 → length body ≡ first / 8 + 1 → IntRun2 signed (first ∷ body) (repeat_values signed first body)
-  direct : (first second : ℕ) (body : List ℕ) → 64 ≤ first → first < 128 → length body ≡ packed_len (width_of (code_of first)) (run_len first second) → IntRun2 signed (first ∷ second ∷ body) (direct_values signed (width_of (code_of first)) (run_len first second) body)
+  direct : (first second : ℕ) (body : List ℕ) → 64 ≤ first → first < 128 → length body ≡ packed_len (width_of (code_of first)) (run_len first second) → IntRun2 signed (first ∷ second ∷ body) (map (integer signed) (unpacked (width_of (code_of first)) (run_len first second) body))
   patched_base : (first second third fourth : ℕ) (base body entries numbers : List ℕ) → 128 ≤ first → first < 192 →
       (0 < patch_count fourth → fourth / 32 + 1 + width_of (third % 32) ≤ 64) →
-      length base ≡ base_len third → length body ≡ packed_len (width_of (code_of first)) (run_len first second) → length entries ≡ entry_len (shape_of (width_of (code_of first)) third fourth) (patch_count fourth) →
+      length base ≡ base_len third → length body ≡ packed_len (width_of (code_of first)) (run_len first second) → length entries ≡ packed_len (entry_width (shape_of (width_of (code_of first)) third fourth)) (patch_count fourth) →
       patched_numbers (shape_of (width_of (code_of first)) third fourth) (patch_count fourth) (run_len first second) body entries ≡ Some numbers →
       IntRun2 signed (first ∷ second ∷ third ∷ fourth ∷ (base ++ (body ++ entries))) (above_base (sign_magnitude (8 * base_len third) (number_of base)) numbers)
   delta : (first second start step : ℕ) (start_bytes step_bytes body : List ℕ) → 192 ≤ first → first < 256 → IsVarint start_bytes start → IsVarint step_bytes step → length body ≡ magnitude_len (code_of first) (run_len first second) →
-      IntRun2 signed (first ∷ second ∷ (start_bytes ++ (step_bytes ++ body))) (delta_values (integer signed start) (zigzag step) (code_of first) (run_len first second) body)
+      IntRun2 signed (first ∷ second ∷ (start_bytes ++ (step_bytes ++ body))) (delta_values (integer signed start) (zigzag step) (code_of first) (run_len first second) (magnitudes_in (code_of first) (run_len first second) body))
 
 -- ---- reading a run, with its first fault
 
@@ -83,19 +84,28 @@ abbrev pub packed : ℕ → ℕ → Reader (List ℕ)
 packed width count = mapped (unpacked width count) (exactly (packed_len width count))
 
 abbrev pub direct_body : Bool → ℕ → ℕ → Reader (List ℤ)
-direct_body signed width count = mapped (direct_values signed width count) (exactly (packed_len width count))
+direct_body signed width count = mapped (map (integer signed)) (packed width count)
+
+abbrev pub magnitudes : ℕ → ℕ → Reader (List ℕ)
+magnitudes code count = if code == 0 then value [] else packed (width_of code) (count - 2)
 
 abbrev pub delta_body : Bool → ℕ → ℕ → Reader (List ℤ)
-delta_body signed code count = bind varint (λ start. bind varint (λ step. mapped (delta_values (integer signed start) (zigzag step) code count) (exactly (magnitude_len code count))))
+delta_body signed code count = bind varint (λ start. bind varint (λ step. mapped (delta_values (integer signed start) (zigzag step) code count) (magnitudes code count)))
 
 -- the values after their patches, above their base
 abbrev pub or_out_of_run : ℤ → Option (List ℕ) → Reader (List ℤ)
 or_out_of_run base None = refusal PatchOutOfRun
 or_out_of_run base (Some numbers) = value (above_base base numbers)
 
+abbrev pub patched_values : Shape → ℤ → ℕ → ℕ → Reader (List ℤ)
+patched_values shape base patches count = bind (packed shape.values count) (λ numbers. bind (packed (entry_width shape) patches) (λ entries. or_out_of_run base (patched shape 0 entries numbers)))
+
+-- a base of so many bytes
+abbrev pub base_bytes : ℕ → Reader ℤ
+base_bytes len = mapped (λ bytes. sign_magnitude (8 * len) (number_of bytes)) (exactly len)
+
 abbrev pub patched_rest : Shape → ℕ → ℕ → ℕ → Reader (List ℤ)
-patched_rest shape base patches count = bind (exactly base) (λ base_bytes. bind (exactly (packed_len shape.values count)) (λ body. bind (exactly (entry_len shape patches)) (λ entries.
-    or_out_of_run (sign_magnitude (8 * base) (number_of base_bytes)) (patched_numbers shape patches count body entries))))
+patched_rest shape base patches count = bind (base_bytes base) (λ base. patched_values shape base patches count)
 
 -- there is a patch, and it is too wide
 abbrev pub too_wide : Shape → ℕ → Bool

@@ -3,12 +3,7 @@
 -- Source: Apache ORC specification v1, "Integer Run Length Encoding, version 2", patched base. That an entry with a gap
 -- of 255 and patch 0 only moves, and that bits past 64 are lost, is this project's own.
 use Rattle.std.specs.Prelude.{ℕ, ◌+◌, ◌*◌, ◌/◌, ◌%◌, ◌^◌, ◌==◌, ◌&&◌, Bool, List, [], ◌∷◌, length, Option, Some, None, nat_lt, slice_index, slice_set, if◌then◌else◌}
-
--- the widths in bits of a run's values, and of the gaps and the patches in its entries
-pub record Shape : Type 0 where
-  pub values : ℕ
-  pub gaps : ℕ
-  pub patches : ℕ
+use Rattle.orc_rle2.specs.declared.patches.Shape.{Shape}
 
 -- how far an entry is from the one before
 abbrev pub gap_of : Shape → ℕ → ℕ

@@ -1,0 +1,8 @@
+use Rattle.std.proofs.Common.{◌≡◌, take, length, replicate}
+use Rattle.orc_rle2.proofs.held.Held.repeat.Given as goal
+
+abbrev pub invariant-loop-i : goal.invariant-loop-i
+invariant-loop-i l = record {
+  len : length l.self-inside.values ≡ 512;
+  made : take l.i l.self-inside.values ≡ replicate l.i l.value;
+}
