@@ -2,7 +2,7 @@
 --
 -- Source: Apache ORC specification v1, "Integer Run Length Encoding, version 2"; that sums wrap at 64 bits is
 -- this project's own.
-use Rattle.std.specs.Prelude.{ℕ, ◌+◌, ◌-◌, ◌*◌, ◌/◌, ◌%◌, ◌^◌, Bool, true, false, List, [], ◌∷◌, length, map, ℤ, pos, negsuc, neg_ℤ, ◌+ℤ◌, ◌*ℤ◌, ◌==◌, nat_lt, if◌then◌else◌}
+use Rattle.std.specs.Prelude.{ℕ, ◌+◌, ◌-◌, ◌*◌, ◌/◌, ◌%◌, ◌^◌, Bool, true, false, List, [], ◌∷◌, length, map, ℤ, pos, negsuc, neg_ℤ, ◌+ℤ◌, ◌*ℤ◌, ◌==◌, nat_lt, Result, Ok, Err, if◌then◌else◌}
 use Rattle.std.specs.Int.{w64, cast_signed, int_wrap}
 use Rattle.std.specs.List.{range_with_len}
 
@@ -36,3 +36,8 @@ with_sign (negsuc delta) magnitude = neg_ℤ (pos magnitude)
 abbrev pub sums : ℤ → List ℤ → List ℤ
 sums value [] = value ∷ []
 sums value (step ∷ steps) = value ∷ sums (wrapped_sum value step) steps
+
+-- the value of 64 bits, where they were read
+abbrev pub seen : {E : Type 0} → Result ℕ E → Result ℤ E
+seen (Ok bits) = Ok (cast_signed w64 bits)
+seen (Err e) = Err e

@@ -1,9 +1,10 @@
 //! The values that a decoder has read and not yet given.
 ghost use Rattle.std.specs.Prelude.{◌≡◌, ◌+◌, ◌≤◌, ◌<◌, [], ◌++◌, length, take, map, replicate};
-ghost use Rattle.orc_rle2.specs.Integers.{integer, ramp};
+ghost use Rattle.std.specs.Int.{cast_signed, w64};
+ghost use Rattle.orc_rle2.specs.Integers.{integer, ramp, wrapped_sum, with_sign};
 ghost use Rattle.orc_rle2.specs.IntRun2.{above_base, varied};
 
-use crate::integers::integer;
+use crate::integers::bits_of;
 use std::marker::Model;
 
 /// Values of a run, in order. It is seen as the list of those that were not given yet.
@@ -50,13 +51,13 @@ impl Held {
         count
     }
 
-    /// Holds one value so many times.
-    pub fn repeat(&mut self, count: usize, value: i64)
+    /// Holds the value of these 64 bits so many times.
+    pub fn repeat(&mut self, count: usize, value: u64)
         requires { count ≤ 512 }
-        ensures { self.new ≡ replicate count value }
+        ensures { self.new ≡ replicate count (cast_signed w64 value) }
     {
         for i in 0..count {
-            self.values[i] = value;
+            self.values[i] = value.cast_signed();
         }
         self.from = 0;
         self.to = count;
@@ -68,32 +69,33 @@ impl Held {
         ensures { self.new ≡ map (integer signed) numbers.now }
     {
         for (i, number) in numbers.iter().enumerate() {
-            self.values[i] = integer(signed, *number);
+            self.values[i] = bits_of(signed, *number).cast_signed();
         }
         self.from = 0;
         self.to = numbers.len();
     }
 
     /// Holds the sums of a base and each of these numbers.
-    pub fn put_above(&mut self, base: i64, numbers: &[u64])
+    pub fn put_above(&mut self, base: u64, numbers: &[u64])
         requires { length numbers.now ≤ 512 }
-        ensures { self.new ≡ above_base base numbers.now }
+        ensures { self.new ≡ above_base (cast_signed w64 base) numbers.now }
     {
         for (i, number) in numbers.iter().enumerate() {
-            self.values[i] = base.wrapping_add(number.cast_signed());
+            self.values[i] = base.wrapping_add(*number).cast_signed();
         }
         self.from = 0;
         self.to = numbers.len();
     }
 
     /// Holds so many values from a base on, each a delta above the one before.
-    pub fn ramp(&mut self, count: usize, base: i64, delta: i64)
+    pub fn ramp(&mut self, count: usize, base: u64, delta: u64)
         requires { count ≤ 512 }
-        ensures { self.new ≡ ramp base delta count }
+        ensures { self.new ≡ ramp (cast_signed w64 base) (cast_signed w64 delta) count }
     {
+        let (front, _) = self.values.split_at_mut(count);
         let mut next = base;
-        for i in 0..count {
-            self.values[i] = next;
+        for value in front.iter_mut() {
+            *value = next.cast_signed();
             next = next.wrapping_add(delta);
         }
         self.from = 0;
@@ -101,23 +103,29 @@ impl Held {
     }
 
     /// Holds a base, the sum of it and a delta, and then with each magnitude one sum more.
-    pub fn vary(&mut self, base: i64, delta: i64, magnitudes: &[u64])
+    pub fn vary(&mut self, base: u64, delta: u64, magnitudes: &[u64])
         requires { length magnitudes.now ≤ 510 }
-        ensures { self.new ≡ varied base delta (length magnitudes.now + 2) magnitudes.now }
+        ensures { self.new ≡ varied (cast_signed w64 base) (cast_signed w64 delta) (length magnitudes.now + 2) magnitudes.now }
     {
-        self.values[0] = base;
         let mut next = base.wrapping_add(delta);
-        self.values[1] = next;
+        self.values[0] = base.cast_signed();
+        self.values[1] = next.cast_signed();
         for (i, magnitude) in magnitudes.iter().enumerate() {
-            let step = magnitude.cast_signed();
-            next = if delta < 0 {
-                next.wrapping_sub(step)
-            } else {
-                next.wrapping_add(step)
-            };
-            self.values[i + 2] = next;
+            next = stepped(next, delta, *magnitude);
+            self.values[i + 2] = next.cast_signed();
         }
         self.from = 0;
         self.to = magnitudes.len() + 2;
+    }
+}
+
+/// A value and a magnitude that has the sign of a delta, of which 0 counts as positive.
+fn stepped(value: u64, delta: u64, magnitude: u64) -> u64
+    ensures { cast_signed w64 result ≡ wrapped_sum (cast_signed w64 value) (with_sign (cast_signed w64 delta) magnitude) }
+{
+    if delta < 1 << 63 {
+        value.wrapping_add(magnitude)
+    } else {
+        value.wrapping_sub(magnitude)
     }
 }

@@ -31,6 +31,7 @@ pub fn number_in(bytes: &[u8]) -> u64
 /// The value at an index, of values of this width.
 fn value_at(bytes: &[u8], width: u32, index: usize) -> u64
     requires narrow { width ≤ 64 }
+    requires few { index < 512 }
     requires room { width * (index + 1) ≤ 8 * length bytes.now }
     requires small { width * (index + 1) ≤ 32768 }
     ensures { result ≡ bits_to bytes.now width (width * (index + 1)) }

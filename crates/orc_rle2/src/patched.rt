@@ -1,6 +1,8 @@
 //! The body of a patched run, read from a feed.
 ghost use Rattle.std.specs.Prelude.{◌≡◌, ◌≤◌, ◌<◌, length, OnOk};
+ghost use Rattle.std.specs.Int.{cast_signed, w64};
 ghost use Rattle.outside.specs.Reading.{Reads, placed};
+ghost use Rattle.orc_rle2.specs.Integers.{seen};
 ghost use Rattle.orc_rle2.specs.IntRun2.{base_bytes, patched_body, patched_after, patched_values, entry_width};
 
 use crate::held::Held;
@@ -65,10 +67,11 @@ fn read_after<F: Feed>(
     read_values(feed, stream, shape, base, patches, count, held)
 }
 
-fn read_base<F: Feed>(feed: &mut F, stream: u32, len: u32) -> Result<i64, RunFault>
+/// Reads a base, and gives its 64 bits.
+fn read_base<F: Feed>(feed: &mut F, stream: u32, len: u32) -> Result<u64, RunFault>
     requires some { 0 < len }
     requires most { len ≤ 8 }
-    ensures { Reads F.rest F.fed F.fault_count stream (base_bytes len) feed.old feed.new result }
+    ensures { Reads F.rest F.fed F.fault_count stream (base_bytes len) feed.old feed.new (seen result) }
 {
     let mut buffer = [0; 8];
     let (bytes, _) = buffer.split_at_mut(len as usize);
@@ -80,7 +83,7 @@ fn read_values<F: Feed>(
     feed: &mut F,
     stream: u32,
     shape: Shape,
-    base: i64,
+    base: u64,
     patches: usize,
     count: usize,
     held: &mut Held,
@@ -92,7 +95,7 @@ fn read_values<F: Feed>(
     requires few { patches < 32 }
     requires most { count ≤ 512 }
     requires asked { 0 < count }
-    ensures reads { Reads F.rest F.fed F.fault_count stream (patched_values shape base patches count) feed.old feed.new (placed held.new result) }
+    ensures reads { Reads F.rest F.fed F.fault_count stream (patched_values shape (cast_signed w64 base) patches count) feed.old feed.new (placed held.new result) }
     ensures some { OnOk result (0 < length held.new) }
 {
     let mut buffer = [0; 512];

@@ -1,7 +1,7 @@
 //! Patches: they give values of a run the bits above its width.
 ghost use Rattle.std.specs.Prelude.{◌≡◌, ◌+◌, ◌≤◌, ◌<◌, length, Some, None, MatchResult};
 ghost use Rattle.outside.specs.declared.run_fault.RunFault.TheVariants.{PatchOutOfRun};
-ghost use Rattle.orc_rle2.specs.Patches.{patched, gap_of, patch_of, patched_value};
+ghost use Rattle.orc_rle2.specs.Patches.{patched, gap_of, patch_of, only_moves, patched_value};
 
 use outside::RunFault;
 
@@ -28,6 +28,14 @@ impl Shape {
         ensures { result ≡ patch_of self entry }
     {
         entry & ((1 << self.patches) - 1)
+    }
+
+    fn only_moves(self, entry: u64) -> bool
+        requires patches { self.patches < 64 }
+        requires gaps { self.gaps ≤ 8 }
+        ensures { result ≡ only_moves self entry }
+    {
+        self.gap(entry) == 255 && self.patch(entry) == 0
     }
 }
 
@@ -56,15 +64,14 @@ pub fn patch(shape: Shape, entries: &[u64], numbers: &mut [u64]) -> Result<(), R
 {
     let mut position = 0;
     for entry in entries {
-        let gap = shape.gap(*entry);
-        let patch = shape.patch(*entry);
-        position += gap as usize;
-        if gap == 255 && patch == 0 {
+        position += shape.gap(*entry) as usize;
+        if shape.only_moves(*entry) {
             continue;
         }
         if position >= numbers.len() {
             return Err(RunFault::PatchOutOfRun);
         }
+        let patch = shape.patch(*entry);
         numbers[position] = patched_value(shape.values, patch, numbers[position]);
     }
     Ok(())

@@ -1,11 +1,12 @@
 //! One run of version 2, read from a feed.
 ghost use Rattle.std.specs.Prelude.{◌≡◌, ◌-◌, ◌≤◌, ◌<◌, length, OnOk};
+ghost use Rattle.std.specs.Int.{cast_signed, w64};
 ghost use Rattle.outside.specs.Reading.{Reads, mapped, placed};
 ghost use Rattle.orc_rle2.specs.IntRun2.{int_run2, repeat_run, long_run, direct_body, delta_body, varied, packed};
 ghost use Rattle.orc_rle2.specs.Widths.{width_of};
 
 use crate::held::Held;
-use crate::integers::integer;
+use crate::integers::bits_of;
 use crate::packed::{number_in, take_packed};
 use crate::patched::read_patched;
 use crate::widths::width_of;
@@ -43,7 +44,7 @@ fn read_repeat<F: Feed>(
     let mut buffer = [0; 8];
     let (bytes, _) = buffer.split_at_mut(usize::from(first / 8 + 1));
     take_exactly(feed, stream, bytes)?;
-    let value = integer(signed, number_in(bytes));
+    let value = bits_of(signed, number_in(bytes));
     held.repeat(usize::from(first % 8 + 3), value);
     Ok(())
 }
@@ -108,8 +109,8 @@ fn read_delta<F: Feed>(
 {
     let start = take_varint(feed, stream)?;
     let step = take_varint(feed, stream)?;
-    let base = integer(signed, start);
-    let delta = integer(true, step);
+    let base = bits_of(signed, start);
+    let delta = bits_of(true, step);
     if code == 0 {
         held.ramp(count, base, delta);
         return Ok(());
@@ -122,15 +123,15 @@ fn read_varied<F: Feed>(
     feed: &mut F,
     stream: u32,
     width: u32,
-    base: i64,
-    delta: i64,
+    base: u64,
+    delta: u64,
     count: usize,
     held: &mut Held,
 ) -> Result<(), RunFault>
     requires narrow { width ≤ 64 }
     requires most { count ≤ 512 }
     requires asked { 0 < count }
-    ensures reads { Reads F.rest F.fed F.fault_count stream (mapped (varied base delta count) (packed width (count - 2))) feed.old feed.new (placed held.new result) }
+    ensures reads { Reads F.rest F.fed F.fault_count stream (mapped (varied (cast_signed w64 base) (cast_signed w64 delta) count) (packed width (count - 2))) feed.old feed.new (placed held.new result) }
     ensures some { OnOk result (0 < length held.new) }
 {
     let mut buffer = [0; 510];

@@ -1,0 +1,28 @@
+use Rattle.std.proofs.Common.{◌≡◌, ◌<◌, ◌≤◌, ◌-◌, true, false, eqb, Ok, Err, [], refl, arith}
+use Rattle.std.specs.Int.{cast_signed, w64}
+use Rattle.std.proofs.lemmas.Bool.{eq-eqb, ne_eqb}
+use Rattle.std.proofs.lemmas.Result.{err_from_is_err_and}
+use Rattle.outside.specs.Reading.{bind, mapped, value}
+use Rattle.outside.specs.Varint.{varint}
+use Rattle.outside.proofs.Reading.{Reads-then, Reads-same, Reads-fault, Reads-value}
+use Rattle.orc_rle2.specs.Integers.{integer, zigzag, ramp}
+use Rattle.orc_rle2.specs.IntRun2.{delta_values, magnitudes, packed, varied}
+use Rattle.orc_rle2.specs.Widths.{width_of}
+use Rattle.orc_rle2.proofs.run2.read_delta.Goals as goal
+
+pub returns-in_err-step-clause-reads : goal.returns-in_err-step-clause-reads
+returns-in_err-step-clause-reads g c =
+    let f = g.F.Feed in
+    let law = g.met.F.Feed in
+    let a = c.args in
+    let p = err_from_is_err_and c.from_residual-in_err-step.result c.from_residual-in_err-step.ensures.1 in
+    let start = c.in_ok-start.start in
+    rw (p.1, p.2) (Reads-then f.rest f.fed f.fault_count a.stream law.fed_nothing law.fed_joined a.feed.now c.take_varint-start.new.feed c.take_varint-step.new.feed varint
+    (λ start. bind varint (λ step. mapped (delta_values (integer a.signed start) (zigzag step) a.code a.count) (magnitudes a.code a.count))) start (Err c.in_err-step.field-0.0) c.in_ok-start.ensures
+    (Reads-fault f.rest f.fed f.fault_count a.stream law.fed_nothing law.fed_joined c.take_varint-start.new.feed c.take_varint-step.new.feed varint (λ step. mapped (delta_values (integer a.signed start) (zigzag step) a.code a.count) (magnitudes a.code a.count)) c.in_err-step.field-0.0 c.in_err-step.ensures))
+
+pub returns-then-code-eq0-clause-reads : goal.returns-then-code-eq0-clause-reads
+returns-then-code-eq0-clause-reads g c = ?
+
+pub returns-clause-reads : goal.returns-clause-reads
+returns-clause-reads g c = let h = c.read_varied.ensures.reads in ?
