@@ -1,4 +1,5 @@
 pub mod Exactly
+pub mod Forms
 pub mod Lengths
 pub mod Lists
 pub mod Masks

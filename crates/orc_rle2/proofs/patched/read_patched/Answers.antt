@@ -1,7 +1,25 @@
+use Rattle.std.proofs.Common.{◌≡◌, ◌+◌, ◌<◌, ◌≤◌, ◌/◌, ◌%◌, Ok, Err, length, arith}
+use Rattle.std.specs.Int.{cast_signed, w64}
+use Rattle.std.proofs.lemmas.Result.{err_from_is_err_and}
+use Rattle.outside.specs.Reading.{byte, bind, value}
+use Rattle.outside.proofs.Reading.{Reads-then, Reads-same, Reads-fault, Reads-value}
+use Rattle.orc_rle2.specs.Patches.{patched}
+use Rattle.orc_rle2.specs.IntRun2.{packed, entry_width, or_out_of_run, above_base, base_bytes, patched_values, patched_rest, patched_after, patched_body, shape_of, base_len, patch_count}
+use Rattle.orc_rle2.specs.Widths.{width_of}
+use Rattle.orc_rle2.proofs.Forms.{in_run, out_of_run, Reads-out_of_run}
+use Rattle.orc_rle2.proofs.RunReader.{patched_after-narrow}
 use Rattle.orc_rle2.proofs.patched.read_patched.Goals as goal
 
 pub returns-in_err-fourth-clause-reads : goal.returns-in_err-fourth-clause-reads
-returns-in_err-fourth-clause-reads g c = ?
+returns-in_err-fourth-clause-reads g c =
+    let f = g.F.Feed in
+    let law = g.met.F.Feed in
+    let a = c.args in
+    let p = err_from_is_err_and c.from_residual-in_err-fourth.result c.from_residual-in_err-fourth.ensures.1 in
+    let third = c.in_ok-third.third in
+    rw (p.1, p.2) (Reads-then f.rest f.fed f.fault_count a.stream law.fed_nothing law.fed_joined a.feed.now c.take_byte.new.feed c.take_byte-2.new.feed byte
+    (λ third. bind byte (λ fourth. patched_after (shape_of a.width third fourth) (base_len third) (patch_count fourth) a.count)) third (Err c.in_err-fourth.field-0.0) c.in_ok-third.ensures
+    (Reads-fault f.rest f.fed f.fault_count a.stream law.fed_nothing law.fed_joined c.take_byte.new.feed c.take_byte-2.new.feed byte (λ fourth. patched_after (shape_of a.width third fourth) (base_len third) (patch_count fourth) a.count) c.in_err-fourth.field-0.0 c.in_err-fourth.ensures))
 
 pub returns-clause-reads : goal.returns-clause-reads
-returns-clause-reads g c = ?
+returns-clause-reads g c = let h = c.read_after.ensures.reads in ?
