@@ -68,13 +68,13 @@ bits_within bytes first count q width r are within bits =
     let back_are : Bytes back = Bytes-behind (drop first bytes) count (Bytes-behind bytes first are) in
     let whole : number_of bytes ≡ number_after (number_after (number_of front) middle) back = ap number_of (sym parts) ∙ number_after-append 0 front (middle ++ back) ∙ number_after-append (number_of front) middle back in
     let splits : number_after (number_of front) middle ≡ number_of front * 2 ^ (q + width + r) + number_of middle =
-        number_after-splits (number_of front) middle ∙ ap (λ (n : ℕ). number_of front * 2 ^ n + number_of middle) (ap (λ (n : ℕ). 8 * n) middle_len ∙ bits) in
+    number_after-splits (number_of front) middle ∙ ap (λ (n : ℕ). number_of front * 2 ^ n + number_of middle) (ap (λ (n : ℕ). 8 * n) middle_len ∙ bits) in
     sym (
-      ap (λ (n : ℕ). n / 2 ^ (8 * (length bytes - (first + count)) + r) % 2 ^ width) whole
-      ∙ ap (λ (n : ℕ). number_after (number_after (number_of front) middle) back / 2 ^ (8 * n + r) % 2 ^ width) (sym back_len)
-      ∙ ap (λ (n : ℕ). n % 2 ^ width) (number_behind (number_after (number_of front) middle) r back back_are)
-      ∙ ap (λ (n : ℕ). n / 2 ^ r % 2 ^ width) splits
-      ∙ in_front (number_of front) (number_of middle) q width r
+    ap (λ (n : ℕ). n / 2 ^ (8 * (length bytes - (first + count)) + r) % 2 ^ width) whole
+    ∙ ap (λ (n : ℕ). number_after (number_after (number_of front) middle) back / 2 ^ (8 * n + r) % 2 ^ width) (sym back_len)
+    ∙ ap (λ (n : ℕ). n % 2 ^ width) (number_behind (number_after (number_of front) middle) r back back_are)
+    ∙ ap (λ (n : ℕ). n / 2 ^ r % 2 ^ width) splits
+    ∙ in_front (number_of front) (number_of middle) q width r
     )
 
 -- one more byte of a number, and how far it grows

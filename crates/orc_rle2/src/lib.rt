@@ -12,3 +12,6 @@ mod run2;
 mod widths;
 
 pub use int_runs2::IntRuns2;
+
+#[cfg(test)]
+mod tests;
