@@ -5,6 +5,7 @@ use std::process::Abort;
 use std::test::Fail;
 
 /// A stream, and what it gives: values, or a fault.
+#[derive(Clone, Copy)]
 struct Row<'a> {
     bytes: &'a [u8],
     signed: bool,
