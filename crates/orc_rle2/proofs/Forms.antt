@@ -1,10 +1,10 @@
 -- What is read, by the form of a run.
-use Rattle.std.proofs.Common.{◌≡◌, ℕ, ◌+◌, ◌-◌, ◌<◌, ◌≤◌, true, false, eqb, List, [], Option, Some, None, Result, Ok, Err, ℤ, refl}
+use Rattle.std.proofs.Common.{◌≡◌, ℕ, ◌-◌, true, false, eqb, List, [], Option, Some, None, Err, ℤ, refl}
 use Rattle.std.proofs.lemmas.Bool.{eq-eqb, ne_eqb}
 use Rattle.outside.specs.declared.run_fault.RunFault.{RunFault}
-use Rattle.outside.specs.declared.run_fault.RunFault.TheVariants.{PatchOutOfRun, PatchTooWide}
+use Rattle.outside.specs.declared.run_fault.RunFault.TheVariants.{PatchOutOfRun}
 use Rattle.outside.specs.Feed.{Taken}
-use Rattle.outside.specs.Reading.{Reader, Reads, Faults, value, mapped}
+use Rattle.outside.specs.Reading.{Reader, Reads, value, mapped}
 use Rattle.outside.proofs.Cause.{Cause-none}
 use Rattle.orc_rle2.specs.Integers.{ramp}
 use Rattle.orc_rle2.specs.IntRun2.{delta_values, magnitudes, packed, varied, or_out_of_run, above_base}

@@ -1,13 +1,12 @@
 -- Each run has a value.
-use Rattle.std.proofs.Common.{◌≡◌, ℕ, zero, suc, ◌+◌, ◌-◌, ◌*◌, ◌%◌, ◌<◌, ◌≤◌, Bool, true, false, cond, eqb, ltb, List, [], ◌∷◌, length, map, Option, Some, None, ℤ, pos, ◌*ℤ◌, refl, sym, ap, ◌∙◌, arith, set, get_or, length-set}
-use Rattle.std.specs.List.{range_with_len}
+use Rattle.std.proofs.Common.{◌≡◌, ℕ, ◌+◌, ◌*◌, ◌%◌, ◌<◌, Bool, true, false, cond, eqb, ltb, List, [], ◌∷◌, length, map, Some, None, ℤ, pos, ◌*ℤ◌, sym, ap, ◌∙◌, arith, set, get_or, length-set}
 use Rattle.std.proofs.lemmas.List.{length-map, length-replicate}
 use Rattle.std.proofs.lemmas.List.FromFn.{length-map-range_with_len}
 use Rattle.orc_rle2.specs.declared.patches.Shape.{Shape}
-use Rattle.orc_rle2.specs.Integers.{integer, wrapped_sum, with_sign, sums, ramp}
+use Rattle.orc_rle2.specs.Integers.{integer, wrapped_sum, ramp}
 use Rattle.orc_rle2.specs.Packed.{unpacked, bits_to, number_of}
 use Rattle.orc_rle2.specs.Patches.{patched, only_moves, gap_of, patch_of, patched_value}
-use Rattle.orc_rle2.specs.IntRun2.{repeat_values, above_base, varied, delta_values, patched_numbers, run_len}
+use Rattle.orc_rle2.specs.IntRun2.{repeat_values, above_base, varied, delta_values, patched_numbers}
 
 pub repeat-some : (signed : Bool) (first : ℕ) (body : List ℕ) → 0 < length (repeat_values signed first body)
 repeat-some signed first body = omega (arith, length-replicate (first % 8 + 3) (integer signed (number_of body)))

@@ -1,9 +1,9 @@
 -- The reader of a run reads just the spellings of runs, whatever follows.
-use Rattle.std.proofs.Common.{◌≡◌, ℕ, ◌+◌, ◌-◌, ◌*◌, ◌/◌, ◌%◌, ◌<◌, ◌≤◌, Bool, true, false, ltb, eqb, ◌&&◌, List, [], ◌∷◌, ◌++◌, length, take, drop, map, Option, Some, None, Result, Ok, Err, ℤ, pos, refl, sym, ap, subst, ◌∙◌, arith, inl, inr, append_assoc}
+use Rattle.std.proofs.Common.{◌≡◌, ℕ, ◌+◌, ◌-◌, ◌*◌, ◌/◌, ◌%◌, ◌<◌, ◌≤◌, Bool, true, false, ltb, eqb, ◌&&◌, List, [], ◌∷◌, ◌++◌, length, map, Option, Some, None, Result, Ok, Err, ℤ, refl, sym, ap, subst, ◌∙◌, arith, inl, inr, append_assoc}
 use Rattle.std.proofs.lemmas.Bool.{cases_lt, cases_eq, lt-ltb, le-ltb, eq-eqb, ne_eqb}
 use Rattle.outside.specs.declared.run_fault.RunFault.{RunFault}
 use Rattle.outside.specs.declared.run_fault.RunFault.TheVariants.{PatchTooWide}
-use Rattle.outside.specs.Reading.{Reader, bind, value, mapped, exactly}
+use Rattle.outside.specs.Reading.{bind, value, mapped, exactly}
 use Rattle.outside.specs.Runs.{IsReaderOf}
 use Rattle.outside.specs.Varint.{IsVarint, varint}
 use Rattle.outside.proofs.VarintRuns.{read_is, went_on, varint-whole, varint-only}
@@ -14,7 +14,7 @@ use Rattle.orc_rle2.specs.Integers.{integer, zigzag, sign_magnitude}
 use Rattle.orc_rle2.specs.Packed.{number_of, packed_len, unpacked}
 use Rattle.orc_rle2.specs.Patches.{patched}
 use Rattle.orc_rle2.specs.Widths.{width_of}
-use Rattle.orc_rle2.specs.IntRun2.{IntRun2, short_repeat, direct, patched_base, delta, code_of, run_len, repeat_values, above_base, magnitude_len, magnitudes_in, magnitudes, delta_values, base_len, base_bytes, shape_of, patch_count, entry_width, patched_numbers, packed, patched_values, repeat_run, direct_body, delta_body, or_out_of_run, patched_rest, too_wide, patched_after, patched_body, long_body, long_run, run_after, int_run2}
+use Rattle.orc_rle2.specs.IntRun2.{IntRun2, short_repeat, direct, patched_base, delta, code_of, run_len, repeat_values, above_base, magnitude_len, magnitudes_in, magnitudes, delta_values, base_len, base_bytes, shape_of, patch_count, entry_width, patched_numbers, packed, patched_values, repeat_run, direct_body, delta_body, or_out_of_run, patched_rest, patched_after, patched_body, long_body, long_run, run_after, int_run2}
 
 abbrev read_of : {X : Type 0} → X × List ℕ → Result (X × List ℕ) RunFault
 read_of p = Ok p

@@ -1,7 +1,7 @@
 -- Sums, value by value.
-use Rattle.std.proofs.Common.{◌≡◌, ℕ, zero, suc, ◌+◌, ◌-◌, ◌*◌, ◌/◌, ◌%◌, ◌^◌, ◌<◌, ◌≤◌, true, false, ltb, List, [], ◌∷◌, ◌++◌, length, take, set, get_or, map, ℤ, pos, negsuc, neg_ℤ, ◌+ℤ◌, ◌-ℤ◌, ◌*ℤ◌, FitsSigned, refl, sym, ap, ◌∙◌, arith}
+use Rattle.std.proofs.Common.{◌≡◌, ℕ, ◌+◌, ◌-◌, ◌%◌, ◌^◌, ◌<◌, ◌≤◌, false, ltb, List, [], ◌∷◌, ◌++◌, length, take, set, get_or, map, ℤ, pos, neg_ℤ, ◌+ℤ◌, ◌-ℤ◌, refl, sym, ap, ◌∙◌, arith}
 use Rattle.std.specs.Int.{w64, cast_signed, int_wrap}
-use Rattle.std.proofs.lemmas.Int.{int_wrap-add_left, int_wrap-add_right, int_wrap-sub_right, int_wrap_fits, wrapping_add-bits, wrapping_sub-bits, to_z_pos, ints}
+use Rattle.std.proofs.lemmas.Int.{int_wrap-add_right, int_wrap-sub_right, wrapping_add-bits, wrapping_sub-bits, to_z_pos, ints}
 use Rattle.std.proofs.lemmas.Bool.{le-ltb}
 use Rattle.std.proofs.lemmas.List.{take_more, take_more_set, map-append}
 use Rattle.orc_rle2.specs.Integers.{sums, wrapped_sum, with_sign}

@@ -1,4 +1,4 @@
-use Rattle.std.proofs.Common.{◌≡◌, ◌∙◌, ◌^◌, ◌<◌, ◌≤◌, ap, sym, arith, ℤ}
+use Rattle.std.proofs.Common.{◌∙◌, ap, sym, arith, ℤ}
 use Rattle.std.specs.Int.{cast_signed, w64}
 use Rattle.orc_rle2.specs.Integers.{wrapped_sum}
 use Rattle.orc_rle2.proofs.Sums.{sum_bits, difference_bits, with_sign-positive, with_sign-negative}

@@ -1,4 +1,4 @@
-use Rattle.std.proofs.Common.{◌≡◌, ◌∙◌, ℕ, ◌+◌, ◌-◌, ◌*◌, ◌/◌, ◌%◌, ◌^◌, ◌≤◌, length, take, drop, ap, arith}
+use Rattle.std.proofs.Common.{◌≡◌, ◌∙◌, ℕ, ◌+◌, ◌-◌, ◌*◌, ◌/◌, ◌%◌, ◌^◌, ◌≤◌, length, ap, arith}
 use Rattle.orc_rle2.specs.Packed.{number_of}
 use Rattle.orc_rle2.proofs.Masks.{masked}
 use Rattle.orc_rle2.proofs.Numbers.{Bytes, bits_within}

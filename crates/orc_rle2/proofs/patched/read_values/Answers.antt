@@ -1,13 +1,11 @@
-use Rattle.std.proofs.Common.{◌≡◌, ◌+◌, ◌<◌, ◌≤◌, ◌/◌, ◌%◌, Ok, Err, length, arith}
+use Rattle.std.proofs.Common.{Ok, Err}
 use Rattle.std.specs.Int.{cast_signed, w64}
 use Rattle.std.proofs.lemmas.Result.{err_from_is_err_and}
-use Rattle.outside.specs.Reading.{byte, bind, value}
+use Rattle.outside.specs.Reading.{bind, value}
 use Rattle.outside.proofs.Reading.{Reads-then, Reads-same, Reads-fault, Reads-value}
 use Rattle.orc_rle2.specs.Patches.{patched}
-use Rattle.orc_rle2.specs.IntRun2.{packed, entry_width, or_out_of_run, above_base, base_bytes, patched_values, patched_rest, patched_after, patched_body, shape_of, base_len, patch_count}
-use Rattle.orc_rle2.specs.Widths.{width_of}
+use Rattle.orc_rle2.specs.IntRun2.{packed, entry_width, or_out_of_run, above_base}
 use Rattle.orc_rle2.proofs.Forms.{in_run, out_of_run, Reads-out_of_run}
-use Rattle.orc_rle2.proofs.RunReader.{patched_after-narrow}
 use Rattle.orc_rle2.proofs.patched.read_values.Goals as goal
 
 pub returns-in_err-take_packed-2-clause-reads : goal.returns-in_err-take_packed-2-clause-reads

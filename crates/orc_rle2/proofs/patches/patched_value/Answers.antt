@@ -1,5 +1,5 @@
-use Rattle.std.proofs.Common.{◌*◌, ◌^◌, ◌<◌, arith}
-use Rattle.orc_rle2.proofs.Masks.{masked, patch_above}
+use Rattle.std.proofs.Common.{◌<◌, arith}
+use Rattle.orc_rle2.proofs.Masks.{patch_above}
 use Rattle.orc_rle2.proofs.patches.patched_value.Goals as goal
 
 pub returns : goal.returns

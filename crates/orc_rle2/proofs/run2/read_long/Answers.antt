@@ -1,4 +1,4 @@
-use Rattle.std.proofs.Common.{◌<◌, ◌≤◌, ◌+◌, ◌*◌, ◌/◌, ◌%◌, arith, rules}
+use Rattle.std.proofs.Common.{◌<◌, ◌≤◌, arith}
 use Rattle.outside.specs.Reading.{byte}
 use Rattle.outside.proofs.Reading.{Reads-then, Reads-same}
 use Rattle.orc_rle2.specs.IntRun2.{long_body, direct_body, patched_body, delta_body, code_of, run_len}

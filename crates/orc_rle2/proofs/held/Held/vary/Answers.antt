@@ -1,4 +1,4 @@
-use Rattle.std.proofs.Common.{◌≡◌, ◌∙◌, ◌+◌, ◌%◌, ◌^◌, ◌<◌, ◌∷◌, [], length, take, get_or, map, refl, ap, arith, FitsSigned, ℤ}
+use Rattle.std.proofs.Common.{◌≡◌, ◌∙◌, ◌+◌, ◌%◌, ◌^◌, ◌<◌, length, take, get_or, map, refl, ap, arith, FitsSigned, ℤ}
 use Rattle.std.specs.Int.{cast_signed, w64}
 use Rattle.std.proofs.lemmas.Int.{to_z-of_z, wrapping_add-bits, ints}
 use Rattle.std.proofs.lemmas.List.{length-set}

@@ -1,4 +1,4 @@
-use Rattle.std.proofs.Common.{◌/◌, ◌^◌, ◌<◌, arith}
+use Rattle.std.proofs.Common.{◌/◌, ◌^◌, arith}
 use Rattle.orc_rle2.proofs.Masks.{masked}
 use Rattle.orc_rle2.proofs.patches.Shape.gap.Goals as goal
 
