@@ -1,0 +1,6 @@
+pub mod Integers
+pub mod IntDecoder
+pub mod IntRun2
+pub mod Packed
+pub mod Patches
+pub mod Widths

@@ -1,0 +1,15 @@
+//! Laws of the format, as contracts of functions that do nothing.
+ghost use Rattle.std.specs.Prelude.{Bool};
+ghost use Rattle.outside.specs.Runs.{BeginsNoOther, IsDecided};
+ghost use Rattle.orc_rle2.specs.IntRun2.{IntRun2, int_run2};
+
+/// No spelling of a run begins the spelling of another run.
+pub fn runs_begin_no_other()
+    ensures { (signed : Bool) → BeginsNoOther (IntRun2 signed) }
+{}
+
+/// A stream spells so many values, or it breaks before them with the fault of the first run that isn't
+/// whole, and never both: so `fill` answers Ok exactly where the stream spells the values.
+pub fn every_stream_is_decided()
+    ensures { (signed : Bool) → IsDecided (IntRun2 signed) (int_run2 signed) }
+{}
