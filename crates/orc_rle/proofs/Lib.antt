@@ -1,5 +1,6 @@
 pub mod BitRuns
 pub mod ByteRunReader
+pub mod EmptyStream
 pub mod Lists
 pub mod Ramp
 pub mod RunReader

@@ -1,9 +1,10 @@
 //! The bits that a decoder has read and not yet given.
-ghost use Rattle.std.specs.Prelude.{◌≡◌, ◌≤◌, ◌<◌, [], ◌++◌, length, take, OnOk};
+ghost use Rattle.std.specs.Prelude.{◌≡◌, ◌==◌, ◌≤◌, ◌<◌, true, false, [], ◌++◌, length, take, Ok, OnOk};
 ghost use Rattle.outside.specs.Reading.{Reads, placed};
 ghost use Rattle.orc_rle.specs.BitRun.{bit_run, bits_of};
+ghost use Rattle.orc_rle.specs.EmptyStream.{unless_empty, found};
 
-use crate::byte_run::read_byte_run;
+use crate::byte_run::{read_byte_run, read_byte_run_unless_empty};
 use crate::held_bytes::HeldBytes;
 use crate::open_byte::OpenByte;
 use outside::{Feed, RunFault};
@@ -37,6 +38,13 @@ impl HeldBits {
         }
     }
 
+    /// Whether no bit is left.
+    pub fn is_empty(&self) -> bool
+        ensures { result ≡ (length self.now == 0) }
+    {
+        self.first.is_empty() && self.bytes.is_empty()
+    }
+
     /// Gives as many bits as there is room for, and answers how many.
     pub fn give(&mut self, out: &mut [bool]) -> usize
         ensures room { result ≤ length out.old }
@@ -57,6 +65,22 @@ impl HeldBits {
     {
         self.first = OpenByte::none();
         read_byte_run(feed, stream, &mut self.bytes)
+    }
+
+    /// Reads a run as `read_run` does, unless no byte of the stream is left: then it answers false, and still
+    /// holds nothing.
+    pub fn read_run_unless_empty<F: Feed>(
+        &mut self,
+        feed: &mut F,
+        stream: u32,
+    ) -> Result<bool, RunFault>
+        requires { self.old ≡ [] }
+        ensures reads { Reads F.rest F.fed F.fault_count stream (unless_empty bit_run) feed.old feed.new (found self.new result) }
+        ensures some { result ≡ Ok true → 0 < length self.new }
+        ensures same { result ≡ Ok false → self.new ≡ [] }
+    {
+        self.first = OpenByte::none();
+        read_byte_run_unless_empty(feed, stream, &mut self.bytes)
     }
 }
 

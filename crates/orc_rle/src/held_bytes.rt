@@ -1,5 +1,5 @@
 //! The bytes that a decoder has read and not yet given.
-ghost use Rattle.std.specs.Prelude.{◌≡◌, ◌+◌, ◌*◌, ◌≤◌, ◌<◌, [], ◌∷◌, ◌++◌, length, take, replicate, MatchOption, OnOk};
+ghost use Rattle.std.specs.Prelude.{◌≡◌, ◌==◌, ◌+◌, ◌*◌, ◌≤◌, ◌<◌, [], ◌∷◌, ◌++◌, length, take, replicate, MatchOption, OnOk};
 ghost use Rattle.outside.specs.Reading.{Reads, exactly, placed};
 ghost use Rattle.orc_rle.specs.BitRun.{bits_of};
 
@@ -35,6 +35,13 @@ impl HeldBytes {
             from: 0,
             to: 0,
         }
+    }
+
+    /// Whether no byte is left.
+    pub fn is_empty(&self) -> bool
+        ensures { result ≡ (length self.now == 0) }
+    {
+        self.from == self.to
     }
 
     /// Gives as many bytes as there is room for, and answers how many.

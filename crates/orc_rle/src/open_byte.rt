@@ -1,5 +1,5 @@
 //! The bits of one byte that are still to be given.
-ghost use Rattle.std.specs.Prelude.{◌≡◌, ◌≤◌, ◌<◌, [], ◌++◌, length, take};
+ghost use Rattle.std.specs.Prelude.{◌≡◌, ◌==◌, ◌≤◌, ◌<◌, [], ◌++◌, length, take};
 ghost use Rattle.orc_rle.specs.BitRun.{byte_bits};
 
 use crate::byte_bits::bits_of_byte;
@@ -41,6 +41,13 @@ impl OpenByte {
             bits: bits_of_byte(byte),
             from: 0,
         }
+    }
+
+    /// Whether no bit is left.
+    pub fn is_empty(&self) -> bool
+        ensures { result ≡ (length self.now == 0) }
+    {
+        self.from == 8
     }
 
     /// Gives as many bits as there is room for, and answers how many.

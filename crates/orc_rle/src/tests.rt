@@ -174,6 +174,23 @@ fn bits_go_on_within_a_byte(rt: HostRuntime) -> Result<(), Fail> {
 }
 
 #[test]
+fn an_empty_stream_is_told_from_one_that_ends(rt: HostRuntime) -> Result<(), Fail> {
+    let alloc = rt.alloc();
+    let bytes: &[u8] = &[0xFF, 0x80];
+    let none: &[u8] = &[];
+    let mut feed = SliceFeed::new(vec![in alloc; none, bytes]?);
+    let mut out = [true; 8];
+    let mut absent = Bits::new(0);
+    assert_eq!(rt; absent.fill_unless_empty(&mut feed, &mut out), Ok(false));
+    assert_eq!(rt; absent.fill(&mut feed, &mut out), Err(RunFault::StreamEnds));
+    let mut bits = Bits::new(1);
+    assert_eq!(rt; bits.fill_unless_empty(&mut feed, &mut out), Ok(true));
+    assert_eq!(rt; out.as_slice(), EIGHT.as_slice());
+    assert_eq!(rt; bits.fill(&mut feed, &mut out), Err(RunFault::StreamEnds));
+    Ok(())
+}
+
+#[test]
 fn the_laws_are_calls() {
     laws::runs_begin_no_other();
     laws::every_stream_is_decided();

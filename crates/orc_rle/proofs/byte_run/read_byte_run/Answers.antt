@@ -1,55 +1,11 @@
-use Rattle.std.proofs.Common.{◌≡◌, ◌+◌, ◌-◌, ◌<◌, ◌≤◌, replicate, Ok, Err, arith, rules}
-use Rattle.std.proofs.lemmas.Result.{err_from_is_err_and}
-use Rattle.outside.specs.Reading.{mapped, byte, exactly, value}
-use Rattle.outside.proofs.Reading.{Reads-then, Reads-same, Reads-map, Reads-fault}
+use Rattle.outside.specs.Reading.{byte}
+use Rattle.outside.proofs.Reading.{Reads-then}
 use Rattle.orc_rle.specs.ByteRun.{bytes_after}
-use Rattle.orc_rle.proofs.ByteRunReader.{bytes_after-repeated, bytes_after-literals}
 use Rattle.orc_rle.proofs.byte_run.read_byte_run.Goals as goal
 
-pub returns-in_err-value-clause-reads : goal.returns-in_err-value-clause-reads
-returns-in_err-value-clause-reads g c =
+pub returns-clause-reads : goal.returns-clause-reads
+returns-clause-reads g c =
     let f = g.F.Feed in
     let law = g.met.F.Feed in
     let a = c.args in
-    let control = c.in_ok-control.control in
-    let lt : control < 128 = omega (arith, c.from-control.ensures, c.if-control-lt128.true) in
-    let between = c.take_byte.new.feed in
-    let last = c.take_byte-then-control-lt128.new.feed in
-    let fault = c.in_err-value.field-0.0 in
-    let p = err_from_is_err_and c.from_residual-in_err-value.result c.from_residual-in_err-value.ensures.1 in
-    rw (p.1, p.2) (Reads-then f.rest f.fed f.fault_count a.stream law.fed_nothing law.fed_joined a.feed.now between last byte bytes_after control (Err fault) c.in_ok-control.ensures
-    (Reads-same f.rest f.fed f.fault_count a.stream law.fed_nothing law.fed_joined between last (bytes_after control) (mapped (replicate (control + 3)) byte) (Err fault) (λ bytes. bytes_after-repeated control bytes lt)
-    (Reads-fault f.rest f.fed f.fault_count a.stream law.fed_nothing law.fed_joined between last byte (λ number. value (replicate (control + 3) number)) fault c.in_err-value.ensures)))
-
-pub returns-in_ok-value-clause-reads : goal.returns-in_ok-value-clause-reads
-returns-in_ok-value-clause-reads g c =
-    let f = g.F.Feed in
-    let law = g.met.F.Feed in
-    let a = c.args in
-    let control = c.in_ok-control.control in
-    let lt : control < 128 = omega (arith, c.from-control.ensures, c.if-control-lt128.true) in
-    let between = c.take_byte.new.feed in
-    let last = c.take_byte-then-control-lt128.new.feed in
-    let number = c.in_ok-value.value in
-    let is : c.repeat.new.self ≡ replicate (control + 3) number = rw c.from-control.ensures at c.repeat.ensures in
-    rw is (Reads-then f.rest f.fed f.fault_count a.stream law.fed_nothing law.fed_joined a.feed.now between last byte bytes_after control (Ok (replicate (control + 3) number)) c.in_ok-control.ensures
-    (Reads-same f.rest f.fed f.fault_count a.stream law.fed_nothing law.fed_joined between last (bytes_after control) (mapped (replicate (control + 3)) byte) (Ok (replicate (control + 3) number)) (λ bytes. bytes_after-repeated control bytes lt)
-    (Reads-map f.rest f.fed f.fault_count a.stream law.fed_nothing law.fed_joined between last byte (replicate (control + 3)) number c.in_ok-value.ensures)))
-
-pub returns-else-control-lt128-clause-reads : goal.returns-else-control-lt128-clause-reads
-returns-else-control-lt128-clause-reads g c =
-    let f = g.F.Feed in
-    let law = g.met.F.Feed in
-    let a = c.args in
-    let control = c.in_ok-control.control in
-    let ge : 128 ≤ control = omega (arith, c.from-control.ensures, c.if-control-lt128.false) in
-    let lt : control < 256 = search rules in
-    let reads = rw c.from-control.ensures at c.take.ensures.reads in
-    Reads-then f.rest f.fed f.fault_count a.stream law.fed_nothing law.fed_joined a.feed.now c.take_byte.new.feed c.take.new.feed byte bytes_after control _ c.in_ok-control.ensures
-    (Reads-same f.rest f.fed f.fault_count a.stream law.fed_nothing law.fed_joined c.take_byte.new.feed c.take.new.feed (bytes_after control) (exactly (256 - control)) _ (λ bytes. bytes_after-literals control bytes ge lt) reads)
-
-pub returns-else-control-lt128-clause-some : goal.returns-else-control-lt128-clause-some
-returns-else-control-lt128-clause-some g c =
-    let control = c.in_ok-control.control in
-    let lt : control < 256 = search rules in
-    c.take.ensures.some (omega (arith, c.from-control.ensures))
+    Reads-then f.rest f.fed f.fault_count a.stream law.fed_nothing law.fed_joined a.feed.now c.take_byte.new.feed c.read_after.new.feed byte bytes_after c.in_ok-control.control _ c.in_ok-control.ensures c.read_after.ensures.reads
