@@ -2,5 +2,4 @@ pub mod BitRuns
 pub mod ByteRunReader
 pub mod EmptyStream
 pub mod Lists
-pub mod Ramp
 pub mod RunReader

@@ -9,7 +9,8 @@ use Rattle.outside.specs.Reading.{value}
 use Rattle.outside.specs.Runs.{IsReaderOf}
 use Rattle.outside.specs.Varint.{varint, varints}
 use Rattle.outside.proofs.VarintRuns.{read_is, went_on, varint-whole, varint-only, varints-whole, varints-only}
-use Rattle.orc_rle.specs.IntRun1.{IntRun1, repeated, literals, integer, ramp, repeated_run, literal_run, run_after, int_run1}
+use Rattle.orc_integers.specs.Integers.{integer, ramp}
+use Rattle.orc_rle.specs.IntRun1.{IntRun1, repeated, literals, repeated_run, literal_run, run_after, int_run1}
 
 abbrev read_of : {X : Type 0} → X × List ℕ → Result (X × List ℕ) RunFault
 read_of p = Ok p

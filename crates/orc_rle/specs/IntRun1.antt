@@ -1,25 +1,16 @@
 -- Runs of integers, version 1.
 --
 -- Source: Apache ORC specification v1, "Integer Run Length Encoding, version 1" and "Base 128 Varint".
-use Rattle.std.specs.Prelude.{◌≡◌, ℕ, ◌+◌, ◌-◌, ◌/◌, ◌%◌, ◌<◌, ◌≤◌, Bool, true, false, List, ◌∷◌, length, map, ℤ, pos, neg_ℤ, ◌+ℤ◌, ◌*ℤ◌, ◌==◌, nat_lt, if◌then◌else◌}
-use Rattle.std.specs.Int.{w8, w64, cast_signed, int_wrap}
-use Rattle.std.specs.List.{range_with_len}
+use Rattle.std.specs.Prelude.{◌≡◌, ℕ, ◌+◌, ◌-◌, ◌<◌, ◌≤◌, Bool, List, ◌∷◌, length, map, ℤ, nat_lt, if◌then◌else◌}
+use Rattle.std.specs.Int.{w8, cast_signed}
 use Rattle.outside.specs.declared.run_fault.RunFault.TheVariants.{StreamEnds}
 use Rattle.outside.specs.Reading.{Reader, bind, mapped, refusal, byte}
 use Rattle.outside.specs.Varint.{IsVarint, AreVarints, varint, varints}
+use Rattle.orc_integers.specs.Integers.{integer, ramp}
 
--- zigzag: 0, -1, 1, -2, 2, and so on
-abbrev pub zigzag : ℕ → ℤ
-zigzag number = if number % 2 == 0 then pos (number / 2) else neg_ℤ (pos ((number + 1) / 2))
-
--- what an unsigned number of a stream stands for: in a signed stream zigzag, and else its 64 bits
-abbrev pub integer : Bool → ℕ → ℤ
-integer true number = zigzag number
-integer false number = cast_signed w64 number
-
--- so many values from the base on, each a delta above the one before; sums wrap at 64 bits
-abbrev pub ramp : ℤ → ℤ → ℕ → List ℤ
-ramp base delta count = map (λ i. int_wrap w64 (base +ℤ pos i *ℤ delta)) (range_with_len 0 count)
+-- how many values a run has, by its control
+abbrev pub run_len : ℕ → ℕ
+run_len control = if nat_lt control 128 then control + 3 else 256 - control
 
 -- The two forms of a run: a control below 128, a signed byte and a base; or a control from 128 on, and as many literals
 -- as it is below 256.

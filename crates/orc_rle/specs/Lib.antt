@@ -2,7 +2,6 @@ pub mod BitRun
 pub mod ByteRun
 pub mod Decoder
 pub mod EmptyStream
-pub mod IntDecoder
 pub mod IntRun1
 pub use Rattle.outside.specs.Filling
 pub use Rattle.outside.specs.Reading

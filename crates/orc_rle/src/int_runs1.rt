@@ -6,8 +6,8 @@ ghost use Rattle.outside.specs.Filling.{Fills};
 ghost use Rattle.outside.specs.Reading.{placed};
 ghost use Rattle.orc_rle.specs.IntRun1.{IntRun1, int_run1};
 
-use crate::held::Held;
-use crate::run1::read_run;
+use crate::run1::give_run;
+use orc_integers::Held;
 use outside::{Feed, RunFault};
 use std::marker::Model;
 
@@ -24,7 +24,7 @@ pub struct IntRuns1 {
 }
 
 impl Model for IntRuns1 {
-    ghost use Rattle.orc_rle.specs.IntDecoder.{IntDecoder};
+    ghost use Rattle.orc_integers.specs.IntDecoder.{IntDecoder};
 
     ghost Value = { IntDecoder };
 
@@ -87,9 +87,8 @@ fn fill_on<F: Feed>(
 {
     let mut given = held.give(out);
     while given < out.len() {
-        read_run(feed, stream, signed, held)?;
         let (_, open) = out.split_at_mut(given);
-        given += held.give(open);
+        given += give_run(feed, stream, signed, held, open)?;
     }
     Ok(())
 }

@@ -5,7 +5,6 @@ mod bits;
 mod byte_bits;
 mod byte_run;
 mod byte_runs;
-mod held;
 mod held_bits;
 mod held_bytes;
 mod int_runs1;

@@ -3,7 +3,7 @@ use Rattle.std.proofs.Common.{◌≡◌, ℕ, ◌+◌, ◌*◌, ◌%◌, ◌<◌
 use Rattle.std.proofs.lemmas.List.{length-map, length-replicate}
 use Rattle.std.proofs.lemmas.List.FromFn.{length-map-range_with_len}
 use Rattle.orc_rle2.specs.declared.patches.Shape.{Shape}
-use Rattle.orc_rle2.specs.Integers.{integer, wrapped_sum, ramp}
+use Rattle.orc_integers.specs.Integers.{integer, wrapped_sum, ramp}
 use Rattle.orc_rle2.specs.Packed.{unpacked, bits_to, number_of}
 use Rattle.orc_rle2.specs.Patches.{patched, only_moves, gap_of, patch_of, patched_value}
 use Rattle.orc_rle2.specs.IntRun2.{repeat_values, above_base, varied, delta_values, patched_numbers}

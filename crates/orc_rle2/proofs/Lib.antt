@@ -1,9 +1,9 @@
 pub mod Exactly
 pub mod Forms
+pub mod Headers
+pub mod InPlace
 pub mod Lengths
-pub mod Lists
 pub mod Masks
 pub mod Numbers
-pub mod Ramp
 pub mod RunReader
-pub mod Sums
+pub mod WrappedSums

@@ -10,7 +10,8 @@ use Rattle.outside.proofs.VarintRuns.{read_is, went_on, varint-whole, varint-onl
 use Rattle.orc_rle2.proofs.Exactly.{exactly-whole, exactly-only}
 use Rattle.orc_rle2.proofs.Lengths.{repeat-some, direct-some, delta-some, patched-some}
 use Rattle.orc_rle2.specs.declared.patches.Shape.{Shape}
-use Rattle.orc_rle2.specs.Integers.{integer, zigzag, sign_magnitude}
+use Rattle.orc_integers.specs.Integers.{integer, zigzag}
+use Rattle.orc_rle2.specs.Integers.{sign_magnitude}
 use Rattle.orc_rle2.specs.Packed.{number_of, packed_len, unpacked}
 use Rattle.orc_rle2.specs.Patches.{patched}
 use Rattle.orc_rle2.specs.Widths.{width_of}

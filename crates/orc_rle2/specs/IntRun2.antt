@@ -7,7 +7,8 @@ use Rattle.outside.specs.declared.run_fault.RunFault.TheVariants.{StreamEnds, Pa
 use Rattle.outside.specs.Reading.{Reader, bind, value, mapped, refusal, byte, exactly}
 use Rattle.outside.specs.Varint.{IsVarint, varint}
 use Rattle.orc_rle2.specs.declared.patches.Shape.{Shape}
-use Rattle.orc_rle2.specs.Integers.{integer, zigzag, sign_magnitude, wrapped_sum, ramp, with_sign, sums}
+use Rattle.orc_integers.specs.Integers.{integer, zigzag, wrapped_sum, ramp}
+use Rattle.orc_rle2.specs.Integers.{sign_magnitude, with_sign, sums}
 use Rattle.orc_rle2.specs.Packed.{number_of, packed_len, unpacked}
 use Rattle.orc_rle2.specs.Patches.{patched}
 use Rattle.orc_rle2.specs.Widths.{width_of, least_width}

@@ -1,5 +1,5 @@
+pub mod Header
 pub mod Integers
-pub mod IntDecoder
 pub mod IntRun2
 pub mod Packed
 pub mod Patches

@@ -6,8 +6,8 @@ ghost use Rattle.outside.specs.Filling.{Fills};
 ghost use Rattle.outside.specs.Reading.{placed};
 ghost use Rattle.orc_rle2.specs.IntRun2.{IntRun2, int_run2};
 
-use crate::held::Held;
-use crate::run2::read_run;
+use crate::run2::give_run;
+use orc_integers::Held;
 use outside::{Feed, RunFault};
 use std::marker::Model;
 
@@ -24,7 +24,7 @@ pub struct IntRuns2 {
 }
 
 impl Model for IntRuns2 {
-    ghost use Rattle.orc_rle2.specs.IntDecoder.{IntDecoder};
+    ghost use Rattle.orc_integers.specs.IntDecoder.{IntDecoder};
 
     ghost Value = { IntDecoder };
 
@@ -88,9 +88,8 @@ fn fill_on<F: Feed>(
 {
     let mut given = held.give(out);
     while given < out.len() {
-        read_run(feed, stream, signed, held)?;
         let (_, open) = out.split_at_mut(given);
-        given += held.give(open);
+        given += give_run(feed, stream, signed, held, open)?;
     }
     Ok(())
 }

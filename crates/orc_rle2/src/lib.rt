@@ -1,14 +1,14 @@
 //! Runs of integers, version 2.
 #![tactic(auto)]
 
-mod held;
+mod header;
 mod int_runs2;
-mod integers;
 pub mod laws;
 mod packed;
 mod patched;
 mod patches;
 mod run2;
+mod sums;
 mod widths;
 
 pub use int_runs2::IntRuns2;

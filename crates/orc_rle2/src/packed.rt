@@ -1,9 +1,12 @@
 //! Packed values: big endian bits, one value after the other.
-ghost use Rattle.std.specs.Prelude.{◌≡◌, ◌+◌, ◌*◌, ◌^◌, ◌<◌, ◌≤◌, length};
+ghost use Rattle.std.specs.Prelude.{◌≡◌, ◌+◌, ◌*◌, ◌^◌, ◌<◌, ◌≤◌, false, length, map};
 ghost use Rattle.outside.specs.Reading.{Reads, placed};
-ghost use Rattle.orc_rle2.specs.IntRun2.{packed};
+ghost use Rattle.orc_integers.specs.Integers.{integer};
+ghost use Rattle.orc_rle2.specs.Integers.{bits_in};
+ghost use Rattle.orc_rle2.specs.IntRun2.{direct_body, packed};
 ghost use Rattle.orc_rle2.specs.Packed.{number_of, bits_to, unpacked};
 
+use orc_integers::bits_of;
 use outside::{Feed, RunFault, take_exactly};
 
 /// The number in a few bytes, big endian.
@@ -44,35 +47,40 @@ fn value_at(bytes: &[u8], width: u32, index: usize) -> u64
     ((number >> behind) & ((1 << width) - 1)) as u64
 }
 
-/// Unpacks values of this width.
-pub fn unpack(bytes: &[u8], width: u32, out: &mut [u64])
+/// Unpacks numbers of this width, and writes the values that they stand for to `into`, which says how many.
+pub fn unpack(bytes: &[u8], width: u32, signed: bool, into: &mut [i64])
     requires narrow { width ≤ 64 }
-    requires few { length out.old ≤ 512 }
-    requires room { width * length out.old ≤ 8 * length bytes.now }
-    ensures { out.new ≡ unpacked width (length out.old) bytes.now }
+    requires few { length into.old ≤ 512 }
+    requires room { width * length into.old ≤ 8 * length bytes.now }
+    ensures { into.new ≡ map (integer signed) (unpacked width (length into.old) bytes.now) }
 {
-    for (i, number) in out.iter_mut().enumerate() {
-        *number = value_at(bytes, width, i);
+    for (i, value) in into.iter_mut().enumerate() {
+        *value = bits_of(signed, value_at(bytes, width, i)).cast_signed();
     }
 }
 
-/// Takes as many packed values of this width as `out` has room for, in one take where the feed gives them at once.
+/// Takes as many packed numbers of this width as `into` has room for, in one take where the feed gives them at
+/// once, and writes the values that they stand for.
 ///
 /// Answers `StreamEnds` where the stream has fewer bytes, and `Read` only where the feed failed in this call.
 pub fn take_packed<F: Feed>(
     feed: &mut F,
     stream: u32,
     width: u32,
-    out: &mut [u64],
+    signed: bool,
+    into: &mut [i64],
 ) -> Result<(), RunFault>
     requires narrow { width ≤ 64 }
-    requires few { length out.old ≤ 512 }
-    ensures { Reads F.rest F.fed F.fault_count stream (packed width (length out.old)) feed.old feed.new (placed out.new result) }
+    requires few { length into.old ≤ 512 }
+    ensures values { Reads F.rest F.fed F.fault_count stream (direct_body signed width (length into.old)) feed.old feed.new (placed into.new result) }
+
+    // Of an unsigned stream the values have the bits of the numbers.
+    ensures bits { signed ≡ false → Reads F.rest F.fed F.fault_count stream (packed width (length into.old)) feed.old feed.new (placed (bits_in into.new) result) }
 {
     let mut buffer = [0; 4096];
-    let len = (width as usize * out.len()).div_ceil(8);
+    let len = (width as usize * into.len()).div_ceil(8);
     let (bytes, _) = buffer.split_at_mut(len);
     take_exactly(feed, stream, bytes)?;
-    unpack(bytes, width, out);
+    unpack(bytes, width, signed, into);
     Ok(())
 }

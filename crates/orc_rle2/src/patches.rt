@@ -1,6 +1,7 @@
 //! Patches: they give values of a run the bits above its width.
 ghost use Rattle.std.specs.Prelude.{◌≡◌, ◌+◌, ◌≤◌, ◌<◌, length, Some, None, MatchResult};
 ghost use Rattle.outside.specs.declared.run_fault.RunFault.TheVariants.{PatchOutOfRun};
+ghost use Rattle.orc_rle2.specs.Integers.{bits_in};
 ghost use Rattle.orc_rle2.specs.Patches.{patched, gap_of, patch_of, only_moves, patched_value};
 
 use outside::RunFault;
@@ -50,29 +51,30 @@ fn patched_value(width: u32, patch: u64, value: u64) -> u64
     (value & ((1 << width) - 1)).wrapping_add(patch << width)
 }
 
-/// Patches the values, entry by entry.
+/// Patches the values, entry by entry. Entries and values are numbers of 64 bits.
 ///
 /// Answers `PatchOutOfRun` at the first entry that patches a position past the values.
-pub fn patch(shape: Shape, entries: &[u64], numbers: &mut [u64]) -> Result<(), RunFault>
+pub fn patch(shape: Shape, entries: &[i64], numbers: &mut [i64]) -> Result<(), RunFault>
     requires values { shape.values ≤ 64 }
     requires gaps { shape.gaps ≤ 8 }
     requires patches { 0 < length entries.now → shape.patches < 64 }
     requires few { length entries.now < 32 }
     ensures { MatchResult result
-        (λ _. patched shape 0 entries.now numbers.old ≡ Some numbers.new)
-        (λ fault. (fault ≡ PatchOutOfRun) × (patched shape 0 entries.now numbers.old ≡ None)) }
+        (λ _. patched shape 0 (bits_in entries.now) (bits_in numbers.old) ≡ Some (bits_in numbers.new))
+        (λ fault. (fault ≡ PatchOutOfRun) × (patched shape 0 (bits_in entries.now) (bits_in numbers.old) ≡ None)) }
 {
     let mut position = 0;
     for entry in entries {
-        position += shape.gap(*entry) as usize;
-        if shape.only_moves(*entry) {
+        let entry = entry.cast_unsigned();
+        position += shape.gap(entry) as usize;
+        if shape.only_moves(entry) {
             continue;
         }
         if position >= numbers.len() {
             return Err(RunFault::PatchOutOfRun);
         }
-        let patch = shape.patch(*entry);
-        numbers[position] = patched_value(shape.values, patch, numbers[position]);
+        let number = numbers[position].cast_unsigned();
+        numbers[position] = patched_value(shape.values, shape.patch(entry), number).cast_signed();
     }
     Ok(())
 }

@@ -1,32 +1,85 @@
 //! One run of version 2, read from a feed.
-ghost use Rattle.std.specs.Prelude.{◌≡◌, ◌-◌, ◌≤◌, ◌<◌, length, OnOk};
+ghost use Rattle.std.specs.Prelude.{◌≡◌, ◌-◌, ◌≤◌, ◌<◌, [], length, OnOk};
 ghost use Rattle.std.specs.Int.{cast_signed, w64};
 ghost use Rattle.outside.specs.Reading.{Reads, mapped, placed};
-ghost use Rattle.orc_rle2.specs.IntRun2.{int_run2, repeat_run, long_run, direct_body, delta_body, varied, packed};
-ghost use Rattle.orc_rle2.specs.Widths.{width_of};
+ghost use Rattle.orc_integers.specs.Given.{shared_out, GivesSomeIfOk};
+ghost use Rattle.orc_rle2.specs.Header.{run_body, repeat_body, count_of, IsBounded};
+ghost use Rattle.orc_rle2.specs.IntRun2.{int_run2, delta_body, varied, packed};
 
-use crate::held::Held;
-use crate::integers::bits_of;
+use crate::header::{Header, read_header};
 use crate::packed::{number_in, take_packed};
 use crate::patched::read_patched;
+use crate::sums::add_steps;
 use crate::widths::width_of;
-use outside::{Feed, RunFault, take_byte, take_exactly, take_varint};
+use orc_integers::{Held, bits_of, write_copies, write_ramp};
+use outside::{Feed, RunFault, take_exactly, take_varint};
 
-/// Reads a run, and holds its values in the place of those that were held.
-pub fn read_run<F: Feed>(
+/// Reads a run, straight into `out` where that has room for it, and else into `held`, of which it gives what
+/// there is room for. Answers how many values were given.
+pub fn give_run<F: Feed>(
     feed: &mut F,
     stream: u32,
     signed: bool,
     held: &mut Held,
+    out: &mut [i64],
+) -> Result<usize, RunFault>
+    requires none { held.old ≡ [] }
+    requires asked { 0 < length out.old }
+    ensures reads { Reads F.rest F.fed F.fault_count stream (int_run2 signed) feed.old feed.new (shared_out out.new held.new result) }
+    ensures gives { GivesSomeIfOk (length out.old) held.new result }
+{
+    let header = read_header(feed, stream)?;
+    let count = header.count();
+    if count <= out.len() {
+        let (into, _) = out.split_at_mut(count);
+        read_body(feed, stream, signed, header, into)?;
+        return Ok(count);
+    }
+    hold_body(feed, stream, signed, header, held)?;
+    Ok(held.give(out))
+}
+
+/// Reads what follows the header of a run, and holds its values in the place of those that were held.
+fn hold_body<F: Feed>(
+    feed: &mut F,
+    stream: u32,
+    signed: bool,
+    header: Header,
+    held: &mut Held,
 ) -> Result<(), RunFault>
-    ensures reads { Reads F.rest F.fed F.fault_count stream (int_run2 signed) feed.old feed.new (placed held.new result) }
+    requires bounded { IsBounded header }
+    requires some { 0 < count_of header }
+    requires most { count_of header ≤ 512 }
+    ensures reads { Reads F.rest F.fed F.fault_count stream (run_body signed header) feed.old feed.new (placed held.new result) }
     ensures some { OnOk result (0 < length held.new) }
 {
-    let first = take_byte(feed, stream)?;
-    if first < 64 {
-        read_repeat(feed, stream, signed, first, held)
-    } else {
-        read_long(feed, stream, signed, first, held)
+    let count = header.count();
+    let (into, _) = held.values.split_at_mut(count);
+    read_body(feed, stream, signed, header, into)?;
+    held.from = 0;
+    held.to = count;
+    Ok(())
+}
+
+/// Reads what follows the header of a run into `into`, which has room for just its values.
+fn read_body<F: Feed>(
+    feed: &mut F,
+    stream: u32,
+    signed: bool,
+    header: Header,
+    into: &mut [i64],
+) -> Result<(), RunFault>
+    requires bounded { IsBounded header }
+    requires room { length into.old ≡ count_of header }
+    requires some { 0 < length into.old }
+    requires most { length into.old ≤ 512 }
+    ensures { Reads F.rest F.fed F.fault_count stream (run_body signed header) feed.old feed.new (placed into.new result) }
+{
+    match header {
+        Header::Repeat { bytes, .. } => read_repeat(feed, stream, signed, bytes, into),
+        Header::Direct { width, .. } => take_packed(feed, stream, width, signed, into),
+        Header::Patched { width, .. } => read_patched(feed, stream, width, into),
+        Header::Delta { code, .. } => read_delta(feed, stream, signed, code, into),
     }
 }
 
@@ -34,62 +87,16 @@ fn read_repeat<F: Feed>(
     feed: &mut F,
     stream: u32,
     signed: bool,
-    first: u8,
-    held: &mut Held,
+    bytes: u32,
+    into: &mut [i64],
 ) -> Result<(), RunFault>
-    requires { first < 64 }
-    ensures reads { Reads F.rest F.fed F.fault_count stream (repeat_run signed first) feed.old feed.new (placed held.new result) }
-    ensures some { OnOk result (0 < length held.new) }
+    requires { bytes ≤ 8 }
+    ensures { Reads F.rest F.fed F.fault_count stream (repeat_body signed bytes (length into.old)) feed.old feed.new (placed into.new result) }
 {
     let mut buffer = [0; 8];
-    let (bytes, _) = buffer.split_at_mut(usize::from(first / 8 + 1));
-    take_exactly(feed, stream, bytes)?;
-    let value = bits_of(signed, number_in(bytes));
-    held.repeat(usize::from(first % 8 + 3), value);
-    Ok(())
-}
-
-fn read_long<F: Feed>(
-    feed: &mut F,
-    stream: u32,
-    signed: bool,
-    first: u8,
-    held: &mut Held,
-) -> Result<(), RunFault>
-    requires { 64 ≤ first }
-    ensures reads { Reads F.rest F.fed F.fault_count stream (long_run signed first) feed.old feed.new (placed held.new result) }
-    ensures some { OnOk result (0 < length held.new) }
-{
-    let second = take_byte(feed, stream)?;
-    let code = u32::from(first / 2 % 32);
-    let count = 256 * usize::from(first % 2) + usize::from(second) + 1;
-    if first < 128 {
-        read_direct(feed, stream, signed, code, count, held)
-    } else if first < 192 {
-        read_patched(feed, stream, width_of(code), count, held)
-    } else {
-        read_delta(feed, stream, signed, code, count, held)
-    }
-}
-
-fn read_direct<F: Feed>(
-    feed: &mut F,
-    stream: u32,
-    signed: bool,
-    code: u32,
-    count: usize,
-    held: &mut Held,
-) -> Result<(), RunFault>
-    requires code { code < 32 }
-    requires most { count ≤ 512 }
-    requires asked { 0 < count }
-    ensures reads { Reads F.rest F.fed F.fault_count stream (direct_body signed (width_of code) count) feed.old feed.new (placed held.new result) }
-    ensures some { OnOk result (0 < length held.new) }
-{
-    let mut buffer = [0; 512];
-    let (numbers, _) = buffer.split_at_mut(count);
-    take_packed(feed, stream, width_of(code), numbers)?;
-    held.put(signed, numbers);
+    let (number, _) = buffer.split_at_mut(bytes as usize);
+    take_exactly(feed, stream, number)?;
+    write_copies(bits_of(signed, number_in(number)), into);
     Ok(())
 }
 
@@ -98,24 +105,22 @@ fn read_delta<F: Feed>(
     stream: u32,
     signed: bool,
     code: u32,
-    count: usize,
-    held: &mut Held,
+    into: &mut [i64],
 ) -> Result<(), RunFault>
     requires code { code < 32 }
-    requires most { count ≤ 512 }
-    requires asked { 0 < count }
-    ensures reads { Reads F.rest F.fed F.fault_count stream (delta_body signed code count) feed.old feed.new (placed held.new result) }
-    ensures some { OnOk result (0 < length held.new) }
+    requires some { 0 < length into.old }
+    requires most { length into.old ≤ 512 }
+    ensures { Reads F.rest F.fed F.fault_count stream (delta_body signed code (length into.old)) feed.old feed.new (placed into.new result) }
 {
     let start = take_varint(feed, stream)?;
     let step = take_varint(feed, stream)?;
     let base = bits_of(signed, start);
     let delta = bits_of(true, step);
     if code == 0 {
-        held.ramp(count, base, delta);
+        write_ramp(base, delta, into);
         return Ok(());
     }
-    read_varied(feed, stream, width_of(code), base, delta, count, held)
+    read_varied(feed, stream, width_of(code), base, delta, into)
 }
 
 /// Reads the magnitudes behind the second value of a run of deltas.
@@ -125,22 +130,16 @@ fn read_varied<F: Feed>(
     width: u32,
     base: u64,
     delta: u64,
-    count: usize,
-    held: &mut Held,
+    into: &mut [i64],
 ) -> Result<(), RunFault>
     requires narrow { width ≤ 64 }
-    requires most { count ≤ 512 }
-    requires asked { 0 < count }
-    ensures reads { Reads F.rest F.fed F.fault_count stream (mapped (varied (cast_signed w64 base) (cast_signed w64 delta) count) (packed width (count - 2))) feed.old feed.new (placed held.new result) }
-    ensures some { OnOk result (0 < length held.new) }
+    requires some { 0 < length into.old }
+    requires most { length into.old ≤ 512 }
+    ensures { Reads F.rest F.fed F.fault_count stream (mapped (varied (cast_signed w64 base) (cast_signed w64 delta) (length into.old)) (packed width (length into.old - 2))) feed.old feed.new (placed into.new result) }
 {
-    let mut buffer = [0; 510];
-    let (magnitudes, _) = buffer.split_at_mut(count.saturating_sub(2));
-    take_packed(feed, stream, width, magnitudes)?;
-    if count == 1 {
-        held.repeat(1, base);
-    } else {
-        held.vary(base, delta, magnitudes);
-    }
+    let (front, magnitudes) = into.split_at_mut(into.len().min(2));
+    write_ramp(base, delta, front);
+    take_packed(feed, stream, width, false, magnitudes)?;
+    add_steps(base.wrapping_add(delta), delta, magnitudes);
     Ok(())
 }

@@ -1,4 +1,4 @@
-use Rattle.std.proofs.Common.{◌+◌, ◌<◌, ◌≤◌, arith}
+use Rattle.std.proofs.Common.{◌+◌, ◌<◌, ◌≤◌, length, arith}
 use Rattle.std.specs.Int.{cast_signed, w64}
 use Rattle.outside.proofs.Reading.{Reads-then, Reads-same}
 use Rattle.orc_rle2.specs.IntRun2.{base_bytes, patched_values, patched_rest, patched_after}
@@ -6,8 +6,8 @@ use Rattle.orc_rle2.proofs.RunReader.{patched_after-narrow}
 use Rattle.orc_rle2.proofs.patched.read_after.Goals as goal
 use Rattle.orc_rle2.proofs.patched.read_after.Goals.{else-patches-gt0-via-then-patches-gt0+else-shape-gt64, else-patches-gt0-via-else-patches-gt0}
 
-pub returns-clause-reads : goal.returns-clause-reads
-returns-clause-reads g c =
+pub returns : goal.returns
+returns g c =
     let f = g.F.Feed in
     let law = g.met.F.Feed in
     let a = c.args in
@@ -17,6 +17,6 @@ returns-clause-reads g c =
       | else-patches-gt0-via-then-patches-gt0+else-shape-gt64 w ↦ λ some. omega (arith, w.if-shape-gt64.false)
       | else-patches-gt0-via-else-patches-gt0 w ↦ λ some. omega (arith, w.if-patches-gt0.false)
     ] in
-    Reads-same f.rest f.fed f.fault_count a.stream law.fed_nothing law.fed_joined a.feed.now c.read_values.new.feed (patched_after shape a.base_len a.patches a.count) (patched_rest shape a.base_len a.patches a.count) _
-    (λ bytes. patched_after-narrow shape a.base_len a.patches a.count bytes narrow)
-    (Reads-then f.rest f.fed f.fault_count a.stream law.fed_nothing law.fed_joined a.feed.now c.read_base.new.feed c.read_values.new.feed (base_bytes a.base_len) (λ base. patched_values shape base a.patches a.count) (cast_signed w64 c.in_ok-base.base) _ c.in_ok-base.ensures c.read_values.ensures.reads)
+    Reads-same f.rest f.fed f.fault_count a.stream law.fed_nothing law.fed_joined a.feed.now c.read_values.new.feed (patched_after shape a.base_len a.patches (length a.into.now)) (patched_rest shape a.base_len a.patches (length a.into.now)) _
+    (λ bytes. patched_after-narrow shape a.base_len a.patches (length a.into.now) bytes narrow)
+    (Reads-then f.rest f.fed f.fault_count a.stream law.fed_nothing law.fed_joined a.feed.now c.read_base.new.feed c.read_values.new.feed (base_bytes a.base_len) (λ base. patched_values shape base a.patches (length a.into.now)) (cast_signed w64 c.in_ok-base.base) _ c.in_ok-base.ensures c.read_values.ensures)

@@ -1,0 +1,58 @@
+//! The values that a decoder has read and not yet given.
+ghost use Rattle.std.specs.Prelude.{◌≡◌, ◌≤◌, ◌<◌, [], ◌++◌, length, take};
+
+use std::marker::Model;
+
+/// The most values of a run.
+pub const MOST: usize = 512;
+
+/// Values of a run, in order. It is seen as the list of those that were not given yet.
+///
+/// A decoder reads a run straight into the front of `values`, and then says by `from` and `to` where its values
+/// stand.
+#[derive(Drop)]
+pub struct Held {
+    /// Room for the values of one run.
+    pub values: [i64; 512],
+    /// Where the first value stands that was not given yet.
+    pub from: usize,
+    /// Where the last value ends.
+    pub to: usize,
+}
+
+impl Model for Held {
+    ghost use Rattle.std.specs.Prelude.{◌-◌, ◌≤◌, List, ℤ, take, drop};
+
+    ghost Value = { List ℤ };
+
+    ghost view = { λ held. take (held.to - held.from) (drop held.from held.values) };
+
+    ghost invariant = { λ held. (held.from ≤ held.to) × (held.to ≤ 512) };
+}
+
+impl Held {
+    /// No values.
+    pub fn new() -> Held
+        ensures { result ≡ [] }
+    {
+        Held {
+            values: [0; 512],
+            from: 0,
+            to: 0,
+        }
+    }
+
+    /// Gives as many values as there is room for, and answers how many.
+    pub fn give(&mut self, out: &mut [i64]) -> usize
+        ensures room { result ≤ length out.old }
+        ensures parts { self.old ≡ take result out.new ++ self.new }
+        ensures all { result < length out.old → self.new ≡ [] }
+    {
+        let held = &self.values[self.from..self.to];
+        let count = held.len().min(out.len());
+        let (front, _) = out.split_at_mut(count);
+        front.copy_from_slice(&held[..count]);
+        self.from += count;
+        count
+    }
+}

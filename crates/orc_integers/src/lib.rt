@@ -1,0 +1,11 @@
+//! What the two versions of the runs of integers share: what numbers stand for, runs of equal steps, and the
+//! values of a run that are read and not yet given.
+#![tactic(auto)]
+
+mod held;
+mod integers;
+mod ramp;
+
+pub use held::{Held, MOST};
+pub use integers::{bits_of, write_integers};
+pub use ramp::{write_copies, write_ramp};

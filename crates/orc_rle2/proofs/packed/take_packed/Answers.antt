@@ -1,0 +1,20 @@
+use Rattle.std.proofs.Common.{◌≡◌, ◌∙◌, Bool, length, map, ap, arith}
+use Rattle.outside.specs.Reading.{exactly}
+use Rattle.outside.proofs.Reading.{Reads-map}
+use Rattle.orc_integers.specs.Integers.{integer}
+use Rattle.orc_rle2.specs.Integers.{bits_in}
+use Rattle.orc_rle2.specs.Packed.{packed_len, unpacked}
+use Rattle.orc_rle2.proofs.InPlace.{unpacked-bits}
+use Rattle.orc_rle2.proofs.packed.take_packed.Goals as goal
+
+pub returns-clause-bits : goal.returns-clause-bits
+returns-clause-bits g c unsigned =
+    let f = g.F.Feed in
+    let law = g.met.F.Feed in
+    let a = c.args in
+    let count = length a.into.now in
+    let body = c.take_exactly.new.into in
+    let len : length c.split_at_mut-bytes.result.0.now ≡ packed_len a.width count = omega (arith, c.split_at_mut-bytes.ensures.front_len, c.div_ceil-len.ensures) in
+    let one = rw len at c.in_ok-take_exactly.ensures in
+    let is : bits_in c.unpack.new.into ≡ unpacked a.width count body = ap bits_in c.unpack.ensures ∙ ap (λ (s : Bool). bits_in (map (integer s) (unpacked a.width count body))) unsigned ∙ unpacked-bits a.width count body c.requires.narrow in
+    rw is (Reads-map f.rest f.fed f.fault_count a.stream law.fed_nothing law.fed_joined a.feed.now c.take_exactly.new.feed (exactly (packed_len a.width count)) (unpacked a.width count) body one)
