@@ -1,9 +1,12 @@
 -- Big endian numbers, and the bits of values inside them.
-use Rattle.std.proofs.Common.{◌≡◌, ℕ, zero, suc, ◌+◌, ◌-◌, ◌*◌, ◌/◌, ◌%◌, ◌^◌, ◌<◌, ◌≤◌, List, [], ◌∷◌, ◌++◌, length, take, drop, get_or, refl, sym, ap, ◌∙◌, arith, length-drop}
-use Rattle.std.proofs.Math.Nat.{add-mul-div_right, add-mul-mod_self_right}
+use Rattle.std.proofs.Common.{◌≡◌, ℕ, zero, suc, ◌+◌, ◌-◌, ◌*◌, ◌/◌, ◌%◌, ◌^◌, ◌<◌, ◌≤◌, List, [], ◌∷◌, ◌++◌, length, take, drop, replicate, get_or, refl, sym, ap, ◌∙◌, arith, inl, inr, length-append, length-drop}
+use Rattle.std.proofs.Math.Nat.{add-mul-div_right, add-mul-mod_self_right, mul-le-mul_left}
 use Rattle.std.proofs.lemmas.Nat.{pow-add, pow_pos, shr-shr}
 use Rattle.std.proofs.lemmas.List.{take-append-drop, length-take-le}
-use Rattle.orc_rle2.specs.Packed.{number_after, number_of}
+use Rattle.std.proofs.lemmas.Bool.{cases_lt}
+use Rattle.std.proofs.lemmas.List.FromFn.{fill_by_all, get_or-map-range_with_len, length-map-range_with_len}
+use Rattle.orc_rle2.specs.Packed.{number_after, number_of, bits_to, unpacked}
+use Rattle.orc_rle2.specs.Widths.{IsWidth}
 
 -- numbers that bytes have
 abbrev pub Bytes : List ℕ → Type 0
@@ -50,7 +53,7 @@ in_front number low q width r =
     ∙ ap (λ (n : ℕ). n % 2 ^ width) (add-mul-div_right low (number * 2 ^ q * 2 ^ width) (pow_pos r))
     ∙ add-mul-mod_self_right (low / 2 ^ r) (number * 2 ^ q) (2 ^ width)
 
-Bytes-behind : (bytes : List ℕ) (count : ℕ) → Bytes bytes → Bytes (drop count bytes)
+pub Bytes-behind : (bytes : List ℕ) (count : ℕ) → Bytes bytes → Bytes (drop count bytes)
 Bytes-behind bytes zero h k = h k
 Bytes-behind [] (suc count) h k = h k
 Bytes-behind (byte ∷ bytes) (suc count) h k = Bytes-behind bytes count (λ j. h (suc j)) k
@@ -86,3 +89,36 @@ one_byte_below number byte count h k =
     let e : 8 * (count + 1) ≡ 8 + 8 * count = omega arith in
     let p : 2 ^ (8 * (count + 1)) ≡ 256 * 2 ^ (8 * count) = rw e (pow-add 2 8 (8 * count)) in
     omega arith
+
+-- ---- parts of eight bytes
+
+-- a value stands within the eight bytes from the one on in which it begins
+pub in_word : (width index : ℕ) → IsWidth width → width * index % 8 + width ≤ 64
+in_word width index is =
+    elim (cases_lt 56 width) [
+      | inl wide ↦ let e : width ≡ 64 = is.whole wide in rw e (omega arith)
+      | inr narrow ↦ omega arith
+    ]
+
+-- ---- bytes behind the packed ones
+
+pub bits_to-front : (body back : List ℕ) (width place : ℕ) → Bytes back → place ≤ 8 * length body → bits_to (body ++ back) width place ≡ bits_to body width place
+bits_to-front body back width place are h =
+    let r = 8 * length body - place in
+    let e : 8 * length (body ++ back) - place ≡ 8 * length back + r = omega (arith, length-append body back) in
+    ap (λ (n : ℕ). number_of (body ++ back) / 2 ^ n % 2 ^ width) e
+    ∙ ap (λ (n : ℕ). n / 2 ^ (8 * length back + r) % 2 ^ width) (number_after-append 0 body back)
+    ∙ ap (λ (n : ℕ). n % 2 ^ width) (number_behind (number_of body) r back are)
+
+pub unpacked-front : (width count : ℕ) (body back : List ℕ) → Bytes back → width * count ≤ 8 * length body → unpacked width count (body ++ back) ≡ unpacked width count body
+unpacked-front width count body back are h =
+    fill_by_all (λ (i : ℕ). bits_to body width (width * (i + 1))) (unpacked width count (body ++ back)) count 0 (length-map-range_with_len (λ i. bits_to (body ++ back) width (width * (i + 1))) 0 count)
+    (λ k small.
+    let within : width * (k + 1) ≤ width * count = mul-le-mul_left {m = k + 1} {n = count} width (omega arith) in
+    get_or-map-range_with_len (λ i. bits_to (body ++ back) width (width * (i + 1))) 0 count k k 0 small (omega arith)
+    ∙ bits_to-front body back width (width * (k + 1)) are (omega arith))
+
+pub Bytes-none : (count : ℕ) → Bytes (replicate count 0)
+Bytes-none zero k = omega arith
+Bytes-none (suc count) zero = omega arith
+Bytes-none (suc count) (suc k) = Bytes-none count k

@@ -9,7 +9,7 @@ use Rattle.orc_rle2.specs.declared.header.Header.{Header}
 use Rattle.orc_rle2.specs.declared.header.Header.TheVariants.{Repeat, Direct, Patched, Delta}
 use Rattle.orc_rle2.specs.IntRun2.{code_of, run_len, direct_body, patched_body, delta_body}
 use Rattle.orc_rle2.specs.Packed.{number_of}
-use Rattle.orc_rle2.specs.Widths.{width_of}
+use Rattle.orc_rle2.specs.Widths.{width_of, IsWidth}
 
 -- what the first two bytes of a form but short repeat say
 abbrev pub long_header : ℕ → ℕ → ℕ → Header
@@ -32,8 +32,8 @@ count_of (Delta code count) = count
 -- the bounds of a width in bytes, of a width in bits, and of a width code
 abbrev pub IsBounded : Header → Type 0
 IsBounded (Repeat bytes count) = bytes ≤ 8
-IsBounded (Direct width count) = width ≤ 64
-IsBounded (Patched width count) = width ≤ 64
+IsBounded (Direct width count) = IsWidth width
+IsBounded (Patched width count) = IsWidth width
 IsBounded (Delta code count) = code < 32
 
 -- the values of one number of so many bytes

@@ -1,7 +1,7 @@
 -- The widths of packed values, in bits.
 --
 -- Source: Apache ORC specification v1, "Integer Run Length Encoding, version 2", its table of widths.
-use Rattle.std.specs.Prelude.{ℕ, ◌+◌, ◌-◌, List, [], ◌∷◌, nat_lt, nat_le, slice_index_or, if◌then◌else◌}
+use Rattle.std.specs.Prelude.{◌≡◌, ℕ, ◌+◌, ◌-◌, ◌<◌, ◌≤◌, List, [], ◌∷◌, nat_lt, nat_le, slice_index_or, if◌then◌else◌}
 
 -- the widths above 24 bits, in order; below them all are there
 abbrev pub wide : List ℕ
@@ -19,3 +19,9 @@ least_of (width ∷ widths) bits = if nat_le bits width then width else least_of
 -- the least width that is at least so many bits
 abbrev pub least_width : ℕ → ℕ
 least_width bits = if nat_le bits 24 then bits else least_of wide bits
+
+-- what all widths of the table have in common: a value of one stands within eight bytes, whatever bit it begins at
+pub record IsWidth (width : ℕ) : Type 0 where
+  pub some : 0 < width
+  pub most : width ≤ 64
+  pub whole : 56 < width → width ≡ 64

@@ -1,10 +1,11 @@
 //! Packed values: big endian bits, one value after the other.
-ghost use Rattle.std.specs.Prelude.{◌≡◌, ◌+◌, ◌*◌, ◌^◌, ◌<◌, ◌≤◌, false, length, map};
+ghost use Rattle.std.specs.Prelude.{◌≡◌, ◌+◌, ◌*◌, ◌^◌, ◌-◌, ◌/◌, ◌<◌, ◌≤◌, false, length, take, drop, map};
 ghost use Rattle.outside.specs.Reading.{Reads, placed};
 ghost use Rattle.orc_integers.specs.Integers.{integer};
 ghost use Rattle.orc_rle2.specs.Integers.{bits_in};
 ghost use Rattle.orc_rle2.specs.IntRun2.{direct_body, packed};
-ghost use Rattle.orc_rle2.specs.Packed.{number_of, bits_to, unpacked};
+ghost use Rattle.orc_rle2.specs.Packed.{number_of, bits_to, packed_len, unpacked};
+ghost use Rattle.orc_rle2.specs.Widths.{IsWidth};
 
 use orc_integers::bits_of;
 use outside::{Feed, RunFault, take_exactly};
@@ -31,32 +32,51 @@ pub fn number_in(bytes: &[u8]) -> u64
     number_of(bytes) as u64
 }
 
-/// The value at an index, of values of this width.
-fn value_at(bytes: &[u8], width: u32, index: usize) -> u64
-    requires narrow { width ≤ 64 }
+/// The number in the eight bytes from a place on, big endian.
+fn word_at(bytes: &[u8], at: usize) -> u64
+    requires { at + 8 ≤ length bytes.now }
+    ensures { result ≡ number_of (take 8 (drop at bytes.now)) }
+{
+    match bytes[at..].split_first_chunk::<8>() {
+        Some((word, _)) => u64::from_be_bytes(*word),
+        None => 0,
+    }
+}
+
+/// The number at an index, of numbers of this width. The mask has as many low bits.
+fn value_at(bytes: &[u8], width: u32, mask: u64, index: usize) -> u64
+    requires width { IsWidth width }
+    requires mask { mask ≡ 2 ^ width - 1 }
     requires few { index < 512 }
-    requires room { width * (index + 1) ≤ 8 * length bytes.now }
-    requires small { width * (index + 1) ≤ 32768 }
+    requires room { width * index / 8 + 8 ≤ length bytes.now }
     ensures { result ≡ bits_to bytes.now width (width * (index + 1)) }
 {
-    let end = width as usize * (index + 1);
-    let first = (end - width as usize) / 8;
-    let last = end.div_ceil(8);
-    let number = number_of(&bytes[first..last]);
-    let behind = 8 * last - end;
-    ((number >> behind) & ((1 << width) - 1)) as u64
+    let place = width * index as u32;
+    let behind = 64 - (place % 8 + width);
+    (word_at(bytes, place as usize / 8) >> behind) & mask
 }
 
 /// Unpacks numbers of this width, and writes the values that they stand for to `into`, which says how many.
-pub fn unpack(bytes: &[u8], width: u32, signed: bool, into: &mut [i64])
-    requires narrow { width ≤ 64 }
+///
+/// Eight bytes stand behind those that are read, so that each number is read as a part of eight bytes.
+fn unpack(bytes: &[u8], width: u32, signed: bool, into: &mut [i64])
+    requires width { IsWidth width }
     requires few { length into.old ≤ 512 }
-    requires room { width * length into.old ≤ 8 * length bytes.now }
+    requires room { packed_len width (length into.old) + 8 ≤ length bytes.now }
     ensures { into.new ≡ map (integer signed) (unpacked width (length into.old) bytes.now) }
 {
+    let mask = low_bits(width);
     for (i, value) in into.iter_mut().enumerate() {
-        *value = bits_of(signed, value_at(bytes, width, i)).cast_signed();
+        *value = bits_of(signed, value_at(bytes, width, mask, i)).cast_signed();
     }
+}
+
+/// A number of so many bits, all set.
+fn low_bits(width: u32) -> u64
+    requires { width ≤ 64 }
+    ensures { result ≡ 2 ^ width - 1 }
+{
+    ((1u128 << width) - 1) as u64
 }
 
 /// Takes as many packed numbers of this width as `into` has room for, in one take where the feed gives them at
@@ -70,17 +90,17 @@ pub fn take_packed<F: Feed>(
     signed: bool,
     into: &mut [i64],
 ) -> Result<(), RunFault>
-    requires narrow { width ≤ 64 }
+    requires width { IsWidth width }
     requires few { length into.old ≤ 512 }
     ensures values { Reads F.rest F.fed F.fault_count stream (direct_body signed width (length into.old)) feed.old feed.new (placed into.new result) }
 
     // Of an unsigned stream the values have the bits of the numbers.
     ensures bits { signed ≡ false → Reads F.rest F.fed F.fault_count stream (packed width (length into.old)) feed.old feed.new (placed (bits_in into.new) result) }
 {
-    let mut buffer = [0; 4096];
+    let mut buffer = [0; 4104];
     let len = (width as usize * into.len()).div_ceil(8);
     let (bytes, _) = buffer.split_at_mut(len);
     take_exactly(feed, stream, bytes)?;
-    unpack(bytes, width, signed, into);
+    unpack(&buffer, width, signed, into);
     Ok(())
 }

@@ -4,6 +4,7 @@ ghost use Rattle.std.specs.Int.{cast_signed, w64};
 ghost use Rattle.outside.specs.Reading.{Reads, placed};
 ghost use Rattle.orc_rle2.specs.Integers.{seen};
 ghost use Rattle.orc_rle2.specs.IntRun2.{base_bytes, patched_body, patched_after, patched_values, entry_width};
+ghost use Rattle.orc_rle2.specs.Widths.{IsWidth};
 
 use crate::packed::{number_in, take_packed};
 use crate::patches::{Shape, patch};
@@ -18,7 +19,7 @@ pub fn read_patched<F: Feed>(
     width: u32,
     into: &mut [i64],
 ) -> Result<(), RunFault>
-    requires narrow { width ≤ 64 }
+    requires width { IsWidth width }
     requires most { length into.old ≤ 512 }
     ensures { Reads F.rest F.fed F.fault_count stream (patched_body width (length into.old)) feed.old feed.new (placed into.new result) }
 {
@@ -43,7 +44,7 @@ fn read_after<F: Feed>(
     patches: usize,
     into: &mut [i64],
 ) -> Result<(), RunFault>
-    requires narrow { shape.values ≤ 64 }
+    requires width { IsWidth shape.values }
     requires gaps { shape.gaps ≤ 8 }
     requires gap { 0 < shape.gaps }
     requires wide { shape.patches ≤ 64 }
@@ -80,8 +81,9 @@ fn read_values<F: Feed>(
     patches: usize,
     into: &mut [i64],
 ) -> Result<(), RunFault>
-    requires narrow { shape.values ≤ 64 }
+    requires width { IsWidth shape.values }
     requires gaps { shape.gaps ≤ 8 }
+    requires gap { 0 < shape.gaps }
     requires wide { 0 < patches → shape.patches < 64 }
     requires widest { shape.patches ≤ 64 }
     requires few { patches < 32 }

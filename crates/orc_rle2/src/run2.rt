@@ -5,6 +5,7 @@ ghost use Rattle.outside.specs.Reading.{Reads, mapped, placed};
 ghost use Rattle.orc_integers.specs.Given.{shared_out, GivesSomeIfOk};
 ghost use Rattle.orc_rle2.specs.Header.{run_body, repeat_body, count_of, IsBounded};
 ghost use Rattle.orc_rle2.specs.IntRun2.{int_run2, delta_body, varied, packed};
+ghost use Rattle.orc_rle2.specs.Widths.{IsWidth};
 
 use crate::header::{Header, read_header};
 use crate::packed::{number_in, take_packed};
@@ -132,7 +133,7 @@ fn read_varied<F: Feed>(
     delta: u64,
     into: &mut [i64],
 ) -> Result<(), RunFault>
-    requires narrow { width ≤ 64 }
+    requires width { IsWidth width }
     requires some { 0 < length into.old }
     requires most { length into.old ≤ 512 }
     ensures { Reads F.rest F.fed F.fault_count stream (mapped (varied (cast_signed w64 base) (cast_signed w64 delta) (length into.old)) (packed width (length into.old - 2))) feed.old feed.new (placed into.new result) }

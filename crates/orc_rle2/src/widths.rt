@@ -1,13 +1,12 @@
 //! The widths of packed values, in bits.
 ghost use Rattle.std.specs.Prelude.{◌≡◌, ◌<◌, ◌≤◌};
-ghost use Rattle.orc_rle2.specs.Widths.{width_of, least_width};
+ghost use Rattle.orc_rle2.specs.Widths.{width_of, least_width, IsWidth};
 
 /// The width that a code means.
 pub fn width_of(code: u32) -> u32
     requires { code < 32 }
     ensures value { result ≡ width_of code }
-    ensures some { 0 < result }
-    ensures most { result ≤ 64 }
+    ensures width { IsWidth result }
 {
     match code {
         0..=23 => code + 1,
@@ -24,8 +23,9 @@ pub fn width_of(code: u32) -> u32
 
 /// The least width that is at least so many bits, or 64, the greatest, where none is.
 pub fn least_width(bits: u32) -> u32
+    requires { 0 < bits }
     ensures value { result ≡ least_width bits }
-    ensures most { result ≤ 64 }
+    ensures width { IsWidth result }
 {
     match bits {
         0..=24 => bits,
