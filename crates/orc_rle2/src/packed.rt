@@ -10,6 +10,9 @@ ghost use Rattle.orc_rle2.specs.Widths.{IsWidth};
 use orc_integers::bits_of;
 use outside::{Feed, RunFault, take_exactly};
 
+/// So many values or fewer are taken with a small buffer, which has room for them at any width.
+const FEW: usize = 32;
+
 /// The number in a few bytes, big endian.
 fn number_of(bytes: &[u8]) -> u128
     requires { length bytes.now ≤ 9 }
@@ -97,7 +100,29 @@ pub fn take_packed<F: Feed>(
     // Of an unsigned stream the values have the bits of the numbers.
     ensures bits { signed ≡ false → Reads F.rest F.fed F.fault_count stream (packed width (length into.old)) feed.old feed.new (placed (bits_in into.new) result) }
 {
-    let mut buffer = [0; 4104];
+    if into.len() <= FEW {
+        take_within::<F, 264>(feed, stream, width, signed, into)
+    } else {
+        take_within::<F, 4104>(feed, stream, width, signed, into)
+    }
+}
+
+/// Does what `take_packed` does, with a buffer of so many bytes, since a large one takes long to clear.
+fn take_within<F: Feed, const ROOM: usize>(
+    feed: &mut F,
+    stream: u32,
+    width: u32,
+    signed: bool,
+    into: &mut [i64],
+) -> Result<(), RunFault>
+    requires width { IsWidth width }
+    requires few { length into.old ≤ 512 }
+    requires room { packed_len width (length into.old) + 8 ≤ ROOM }
+    requires small { ROOM ≤ 4104 }
+    ensures values { Reads F.rest F.fed F.fault_count stream (direct_body signed width (length into.old)) feed.old feed.new (placed into.new result) }
+    ensures bits { signed ≡ false → Reads F.rest F.fed F.fault_count stream (packed width (length into.old)) feed.old feed.new (placed (bits_in into.new) result) }
+{
+    let mut buffer = [0; ROOM];
     let len = (width as usize * into.len()).div_ceil(8);
     let (bytes, _) = buffer.split_at_mut(len);
     take_exactly(feed, stream, bytes)?;

@@ -7,7 +7,7 @@ use Rattle.orc_rle2.specs.IntRun2.{packed}
 use Rattle.orc_rle2.specs.Packed.{packed_len, unpacked}
 use Rattle.orc_rle2.proofs.InPlace.{unpacked-bits}
 use Rattle.orc_rle2.proofs.Numbers.{Bytes, Bytes-none, Bytes-behind, unpacked-front}
-use Rattle.orc_rle2.proofs.packed.take_packed.Goals as goal
+use Rattle.orc_rle2.proofs.packed.take_within.Goals as goal
 
 pub returns-clause-values : goal.returns-clause-values
 returns-clause-values g c =
@@ -20,7 +20,7 @@ returns-clause-values g c =
     let last = c.take_exactly.new.feed in
     let len : length c.split_at_mut-bytes.result.0.now ≡ packed_len a.width count = omega (arith, c.split_at_mut-bytes.ensures.front_len, c.div_ceil-len.ensures) in
     let one = rw len at c.in_ok-take_exactly.ensures in
-    let are : Bytes back = subst (λ (l : List ℕ). Bytes l) (sym c.split_at_mut-bytes.ensures.back) (Bytes-behind _ c.div_ceil-len.result (Bytes-none 4104)) in
+    let are : Bytes back = subst (λ (l : List ℕ). Bytes l) (sym c.split_at_mut-bytes.ensures.back) (Bytes-behind _ c.div_ceil-len.result (Bytes-none _)) in
     let room : a.width * count ≤ 8 * length body = omega (arith, len, c.take_exactly.auto.into) in
     let is : c.unpack.new.into ≡ map (integer a.signed) (unpacked a.width count body) = c.unpack.ensures ∙ ap (map (integer a.signed)) (unpacked-front a.width count body back are room) in
     rw is (Reads-map f.rest f.fed f.fault_count a.stream law.fed_nothing law.fed_joined a.feed.now last (packed a.width count) (map (integer a.signed)) (unpacked a.width count body)
@@ -36,7 +36,7 @@ returns-clause-bits g c unsigned =
     let back = c.split_at_mut-bytes.result.1.now in
     let len : length c.split_at_mut-bytes.result.0.now ≡ packed_len a.width count = omega (arith, c.split_at_mut-bytes.ensures.front_len, c.div_ceil-len.ensures) in
     let one = rw len at c.in_ok-take_exactly.ensures in
-    let are : Bytes back = subst (λ (l : List ℕ). Bytes l) (sym c.split_at_mut-bytes.ensures.back) (Bytes-behind _ c.div_ceil-len.result (Bytes-none 4104)) in
+    let are : Bytes back = subst (λ (l : List ℕ). Bytes l) (sym c.split_at_mut-bytes.ensures.back) (Bytes-behind _ c.div_ceil-len.result (Bytes-none _)) in
     let room : a.width * count ≤ 8 * length body = omega (arith, len, c.take_exactly.auto.into) in
     let is : bits_in c.unpack.new.into ≡ unpacked a.width count body =
     ap bits_in (c.unpack.ensures ∙ ap (map (integer a.signed)) (unpacked-front a.width count body back are room)) ∙ ap (λ (s : Bool). bits_in (map (integer s) (unpacked a.width count body))) unsigned ∙ unpacked-bits a.width count body c.requires.width.most in
