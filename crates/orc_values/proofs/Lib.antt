@@ -1,0 +1,5 @@
+mod Aligned
+mod Counts
+mod Laid
+mod Places
+mod Spreads

@@ -1,0 +1,39 @@
+-- The rows of a column, by its flags and its typed list.
+use Rattle.std.specs.Prelude.{ℕ, Bool, true, false, List, length, map, Option, Some, None}
+use Rattle.orc_values.specs.declared.value.Value.{Value}
+use Rattle.orc_values.specs.declared.value.Value.TheVariants as value
+use Rattle.orc_values.specs.declared.column_values.ColumnValues.{ColumnValues}
+use Rattle.orc_values.specs.declared.column_values.ColumnValues.TheVariants as list
+use Rattle.orc_values.specs.Woven.{aligned}
+
+-- the values of some rows
+abbrev pub RowValues : Type 0
+RowValues = List Value
+
+-- a row's value: null where there is none
+abbrev pub value_by : {A : Type 0} → (A → Value) → Option A → Value
+value_by kind None = value.Null
+value_by kind (Some entry) = kind entry
+
+-- how many entries a typed list has
+abbrev pub entries_in : ColumnValues → ℕ
+entries_in (list.Bools entries) = length entries.items
+entries_in (list.Ints entries) = length entries.items
+entries_in (list.Texts entries) = length entries
+
+-- each row's value: null where its flag isn't set, and else its entry
+abbrev pub column_of : List Bool → ColumnValues → RowValues
+column_of present (list.Bools entries) = map (value_by (λ b. value.Bool b)) (aligned present entries.items)
+column_of present (list.Ints entries) = map (value_by (λ n. value.Int n)) (aligned present entries.items)
+column_of present (list.Texts entries) = map (value_by (λ text. value.Text text)) (aligned present entries)
+
+-- whether a value isn't null
+abbrev pub is_present : Value → Bool
+is_present value.Null = false
+is_present (value.Bool b) = true
+is_present (value.Int n) = true
+is_present (value.Text text) = true
+
+-- which rows of a column aren't null
+abbrev pub present_of : RowValues → List Bool
+present_of column = map is_present column

@@ -1,0 +1,6 @@
+pub mod Woven
+pub mod WovenLaws
+pub mod Texts
+pub mod TextsLaws
+pub mod Shown
+pub mod Column

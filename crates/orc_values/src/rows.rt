@@ -1,0 +1,58 @@
+//! From the list of the values that stand to one entry for each row.
+
+ghost use Rattle.std.specs.Prelude.{◌≡◌, ◌+◌, ◌<◌, ◌^◌, ℕ, List, length, take, map, sum, unsigned_abs, All};
+ghost use Rattle.std.specs.Int.{IsNonNegative};
+ghost use Rattle.orc_values.specs.Woven.{present_count, woven, aligned};
+ghost use Rattle.orc_values.specs.Texts.{texts_from, AreEnds, slices};
+
+/// How many flags are set.
+pub fn count_present(present: &[bool]) -> usize
+    ensures { result ≡ present_count present.now }
+{
+    present.iter().filter(|p| **p).count()
+}
+
+/// Moves dense values to their rows, in place.
+///
+/// `values` has an entry for each row, and its first entries are the values of the rows whose flag is set, in
+/// order. Afterwards each stands at its row, and the entry of another row is any. Where all flags are set,
+/// nothing moves.
+pub fn spread<T: Copy>(present: &[bool], values: &mut [T])
+    requires { length present.now ≡ length values.old }
+    ensures { aligned present.now values.new ≡ woven present.now (take (present_count present.now) values.old) }
+{
+    // From the last row on, a value goes to a row at or behind its place, so none that is still to be moved is lost.
+    let mut from = count_present(present);
+    let mut row = present.len();
+    while from < row {
+        row -= 1;
+        if present[row] {
+            from -= 1;
+            values[row] = values[from];
+        }
+    }
+}
+
+/// Lays the ends of texts for each row: a row whose flag is set is as long as the next of the lengths, and
+/// another is empty.
+///
+/// `lengths` are in bytes, one for each flag that is set, and the first text begins at `from`.
+pub fn lay_ends(present: &[bool], lengths: &[i64], from: usize, ends: &mut [usize])
+    requires rows { length present.now ≡ length ends.old }
+    requires dense { length lengths.now ≡ present_count present.now }
+    requires positive { All IsNonNegative lengths.now }
+    requires fits { from + sum (map unsigned_abs lengths.now) < 2 ^ 64 }
+    ensures are_ends { AreEnds from ends.new (from + sum (map unsigned_abs lengths.now)) }
+    ensures texts { (bytes : List ℕ) →
+        aligned present.now (texts_from from ends.new bytes) ≡ woven present.now (slices from (map unsigned_abs lengths.now) bytes) }
+{
+    let mut end = from;
+    let mut used = 0;
+    for (row, place) in ends.iter_mut().enumerate() {
+        if present[row] {
+            end += lengths[used] as usize;
+            used += 1;
+        }
+        *place = end;
+    }
+}
