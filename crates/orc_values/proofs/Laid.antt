@@ -2,7 +2,7 @@
 use Rattle.std.proofs.Common.{◌≡◌, ◌∙◌, ℕ, ◌+◌, ◌≤◌, Bool, true, false, List, [], ◌∷◌, ◌++◌, length, take, drop, sum, slice_range, Option, Some, None, refl, ap, arith}
 use Rattle.std.proofs.lemmas.List.{append-nil, drop_all, take_all}
 use Rattle.orc_values.specs.Woven.{present_count, woven, aligned}
-use Rattle.orc_values.specs.Texts.{texts_from, AreEnds, slices}
+use Rattle.orc_values.specs.Texts.{texts_from, AreEnds, slices, running_ends, row_lens}
 use Rattle.orc_values.specs.TextsLaws.{sum-cons}
 
 -- a row with a value is as long as the next length, and another is empty
@@ -26,6 +26,16 @@ AreEnds-laid end (true ∷ present) [] h = absurd (omega arith)
 AreEnds-laid end (true ∷ present) (len ∷ lens) h =
     let e : end + len + sum lens ≡ end + sum (len ∷ lens) = omega (arith, sum-cons len lens) in
     (omega arith, rw (← e) (AreEnds-laid (end + len) present lens (omega arith)))
+
+pub laid-running : (end : ℕ) (present : List Bool) (lens : List ℕ) → laid end present lens ≡ running_ends end (row_lens present lens)
+laid-running end [] lens = refl
+laid-running end (false ∷ present) lens =
+    let e : end ≡ end + 0 = omega arith in
+    ap (λ (l : List ℕ). end ∷ l) (laid-running end present lens) ∙ ap (λ (n : ℕ). n ∷ running_ends n (row_lens present lens)) e
+laid-running end (true ∷ present) [] =
+    let e : end ≡ end + 0 = omega arith in
+    ap (λ (l : List ℕ). end ∷ l) (laid-running end present []) ∙ ap (λ (n : ℕ). n ∷ running_ends n (row_lens present [])) e
+laid-running end (true ∷ present) (len ∷ lens) = ap (λ (l : List ℕ). (end + len) ∷ l) (laid-running (end + len) present lens)
 
 -- when the last row is laid
 pub laid_whole : (from : ℕ) (present : List Bool) (lens ends : List ℕ) (row end : ℕ) (rest : List ℕ) → length present ≤ row → length ends ≤ row →

@@ -3,7 +3,7 @@
 ghost use Rattle.std.specs.Prelude.{◌≡◌, ◌+◌, ◌<◌, ◌^◌, ℕ, List, length, take, map, sum, unsigned_abs, All};
 ghost use Rattle.std.specs.Int.{IsNonNegative};
 ghost use Rattle.orc_values.specs.Woven.{present_count, woven, aligned};
-ghost use Rattle.orc_values.specs.Texts.{texts_from, AreEnds, slices};
+ghost use Rattle.orc_values.specs.Texts.{texts_from, AreEnds, slices, running_ends, row_lens};
 
 /// How many flags are set.
 pub fn count_present(present: &[bool]) -> usize
@@ -12,7 +12,7 @@ pub fn count_present(present: &[bool]) -> usize
     present.iter().filter(|p| **p).count()
 }
 
-/// Moves dense values to their rows, in place.
+/// Moves values that stand close together to their rows, in place.
 ///
 /// `values` has an entry for each row, and its first entries are the values of the rows whose flag is set, in
 /// order. Afterwards each stands at its row, and the entry of another row is any. Where all flags are set,
@@ -42,6 +42,7 @@ pub fn lay_ends(present: &[bool], lengths: &[i64], from: usize, ends: &mut [usiz
     requires dense { length lengths.now ≡ present_count present.now }
     requires positive { All IsNonNegative lengths.now }
     requires fits { from + sum (map unsigned_abs lengths.now) < 2 ^ 64 }
+    ensures ends { ends.new ≡ running_ends from (row_lens present.now (map unsigned_abs lengths.now)) }
     ensures are_ends { AreEnds from ends.new (from + sum (map unsigned_abs lengths.now)) }
     ensures texts { (bytes : List ℕ) →
         aligned present.now (texts_from from ends.new bytes) ≡ woven present.now (slices from (map unsigned_abs lengths.now) bytes) }

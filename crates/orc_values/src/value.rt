@@ -1,6 +1,6 @@
 //! One value of a row, owned or borrowed.
 
-ghost use Rattle.std.specs.Prelude.{◌≡◌, IfOk};
+ghost use Rattle.std.specs.Prelude.{◌≡◌, ◌↔◌, IsTrue, IfOk};
 ghost use Rattle.orc_values.specs.Shown.{shown};
 
 use outside::{Bytes, NoMemory};
@@ -50,6 +50,19 @@ impl Value {
 }
 
 impl<'a> ValueRef<'a> {
+    /// Whether both show the same value; null is the same as null.
+    pub fn is_same(self, other: ValueRef<'_>) -> bool
+        ensures { IsTrue result ↔ (shown self.entry ≡ shown other.entry) }
+    {
+        match (self, other) {
+            (ValueRef::Null, ValueRef::Null) => true,
+            (ValueRef::Bool(one), ValueRef::Bool(two)) => one == two,
+            (ValueRef::Int(one), ValueRef::Int(two)) => one == two,
+            (ValueRef::Text(one), ValueRef::Text(two)) => one == two,
+            _ => false,
+        }
+    }
+
     /// The same value, owned: a text is copied.
     ///
     /// Answers `NoMemory` only where memory for a text was refused.

@@ -2,8 +2,17 @@ use Rattle.std.proofs.Common.{◌≡◌, ◌∙◌, ◌+◌, List, ℕ, length, 
 use Rattle.std.proofs.lemmas.List.{length-map}
 use Rattle.orc_values.specs.Woven.{present_count, aligned}
 use Rattle.orc_values.specs.Texts.{texts_from, AreEnds}
-use Rattle.orc_values.proofs.Laid.{laid, laid_whole, laid-woven, AreEnds-laid}
+use Rattle.orc_values.proofs.Laid.{laid, laid_whole, laid-running, laid-woven, AreEnds-laid}
 use Rattle.orc_values.proofs.rows.lay_ends.Goals as goal
+
+pub returns-clause-ends : goal.returns-clause-ends
+returns-clause-ends c =
+    let a = c.args in
+    let l = c.loop-row in
+    let lens = map unsigned_abs a.lengths.now in
+    sym (laid_whole a.from a.present.now lens l.ends l.row l.end (map unsigned_abs (drop l.used a.lengths.now))
+    (omega (arith, c.requires.rows, c.loop-row-test.false)) (omega (arith, l.auto.ends, c.loop-row-test.false)) l.invariant.made)
+    ∙ laid-running a.from a.present.now lens
 
 pub returns-clause-are_ends : goal.returns-clause-are_ends
 returns-clause-are_ends c =

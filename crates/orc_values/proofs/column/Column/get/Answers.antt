@@ -62,7 +62,7 @@ returns-in-Ints c =
     let s = c.self.inside in
     let h : c.args.row < length s.present.items = rw (column-length s.present.items s.values c.self.invariant) at (rw (← c.self.view_is) at c.requires) in
     let set : slice_get s.present.items c.args.row ≡ Some true =
-        slice_get_read s.present.items (length s.present.items) c.args.row c.index.result.now refl h c.index.ensures ∙ ap (λ (b : Bool). Some b) c.if-not-index.false in
+    slice_get_read s.present.items (length s.present.items) c.args.row c.index.result.now refl h c.index.ensures ∙ ap (λ (b : Bool). Some b) c.if-not-index.false in
     let is : slice_get c.in-Ints.entries.items c.args.row ≡ Some c.number_at.result = ap (λ (l : List ℤ). slice_get l c.args.row) (sym c.deref.ensures.value) ∙ c.number_at.ensures.value in
     rw (← c.self.view_is)
     (ap (λ (v : ColumnValues). slice_get (column_of s.present.items v) c.args.row) c.in-Ints.is
