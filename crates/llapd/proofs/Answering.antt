@@ -4,7 +4,7 @@ use Rattle.std.proofs.lemmas.List.{take_all, drop_all, length-take}
 use Rattle.std.specs.Prelude.{codes}
 use Rattle.outside.specs.Told.{Extended}
 use Rattle.llapd.specs.declared.line.Outcome.{Outcome}
-use Rattle.llapd.specs.declared.line.Outcome.TheVariants.{Sum, NoFile, NotBuilt, ReadFault, Overflow}
+use Rattle.llapd.specs.declared.line.Outcome.TheVariants.{Sum, NoFile, Compressed, BrokenTail, NoColumn, WrongKind, BrokenFooter, NotBuilt, ReadFault, Overflow}
 use Rattle.llapd.specs.declared.status.Status.{Status}
 use Rattle.llapd.specs.declared.status.Status.TheVariants.{Done, SomeFailed, Usage, BadPlan, WriteFault, PlanFault, NoMemory}
 use Rattle.llapd.specs.Words.{AreGoodWords, usage_text}
@@ -58,6 +58,11 @@ bad_plan_answers call before after bytes text result is good read none done =
 status_is_of_text : (outcome : Outcome) → IsOfText (status_of outcome)
 status_is_of_text (Sum total) = tt
 status_is_of_text NoFile = tt
+status_is_of_text (Compressed kind) = tt
+status_is_of_text (BrokenTail fault) = tt
+status_is_of_text (NoColumn column) = tt
+status_is_of_text (WrongKind column) = tt
+status_is_of_text (BrokenFooter stripe fault) = tt
 status_is_of_text NotBuilt = tt
 status_is_of_text ReadFault = tt
 status_is_of_text Overflow = tt

@@ -4,10 +4,7 @@ use Rattle.std.proofs.Common.{◌≡◌, ◌≢◌, ℕ, ◌+◌, Bool, true, fa
 use Rattle.std.specs.Str.{bytes_eq}
 use Rattle.outside.specs.declared.file_ref.FileRef.{FileRef}
 use Rattle.outside.specs.Files.{File, Files, found_from, file_named, bytes_of, HasBytes, IsFile}
-use Rattle.llapd.specs.declared.line.Outcome.{Outcome}
-use Rattle.llapd.specs.declared.line.Outcome.TheVariants.{Sum, NoFile, NotBuilt, ReadFault, Overflow}
-use Rattle.llapd.specs.Total.{IsOutcomeOf}
-use Rattle.llapd.specs.Meaning.{Found, not_built, found_in, found_bytes, bytes_at, found, Means}
+use Rattle.llapd.specs.Meaning.{found_in, found_bytes, bytes_at, found}
 
 some_is : {A : Type 0} {x y : A} → Some x ≡ Some y → x ≡ y
 some_is p = cc
@@ -73,15 +70,3 @@ pub found_there : (files : Files) (name column : List ℕ) (file : FileRef) (byt
     → found files name column ≡ found_in column bytes
 found_there files name column file bytes named has =
     ap (λ (f : Option FileRef). found_bytes column (bytes_at files f)) (sym named) ∙ ap (λ (b : Option (List ℕ)). found_bytes column b) has.bytes_are
-
--- a sum is no fault
-pub sum_is_no_fault : (rows : ℕ) (stream : List ℕ) (outcome : Outcome) → IsOutcomeOf rows stream outcome → outcome ≢ ReadFault
-sum_is_no_fault rows stream (Sum total) is e = cc
-sum_is_no_fault rows stream NoFile is e = cc
-sum_is_no_fault rows stream NotBuilt is e = cc
-sum_is_no_fault rows stream Overflow is e = cc
-sum_is_no_fault rows stream ReadFault is e = is
-
--- a form that isn't built
-pub not_built_means : (f : Found) → f ≡ not_built → Means f NotBuilt
-not_built_means f is = subst (λ (x : Found). Means x NotBuilt) (sym is) refl

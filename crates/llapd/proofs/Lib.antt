@@ -3,5 +3,7 @@ pub mod Found
 pub mod OneMeaning
 pub mod PlanBytes
 pub mod Scans
+pub mod StripeSums
+pub mod Stripes
 pub mod SumPlan
 pub mod Sums

@@ -1,5 +1,5 @@
 -- What a scan finds means one outcome.
-use Rattle.std.proofs.Common.{◌≡◌, ◌≢◌, ◌⊎◌, ℕ, ◌≤◌, Bool, true, List, [], ◌∷◌, ◌++◌, length, Option, Some, None, Ok, Err, ℤ, refl, sym, ◌∙◌, ap, subst, inl, inr, arith, append_assoc, append-nil}
+use Rattle.std.proofs.Common.{◌≡◌, ◌≢◌, ◌⊎◌, ℕ, ◌+◌, ◌≤◌, Bool, true, List, [], ◌∷◌, ◌++◌, length, Option, Some, None, Ok, Err, ℤ, refl, sym, ◌∙◌, ap, subst, inl, inr, arith, append_assoc, append-nil}
 use Rattle.std.specs.Prelude.{Result, FitsSigned}
 use Rattle.std.specs.Int.{w64}
 use Rattle.outside.specs.declared.run_fault.RunFault.{RunFault}
@@ -9,9 +9,15 @@ use Rattle.outside.proofs.Runs.{Fewest-joined, Spells-not-breaks}
 use Rattle.orc_rle.specs.IntRun1.{IntRun1, int_run1}
 use Rattle.orc_rle.proofs.RunReader.{int_run1_reads}
 use Rattle.llapd.specs.declared.line.Outcome.{Outcome}
-use Rattle.llapd.specs.declared.line.Outcome.TheVariants.{Sum, NoFile, NotBuilt, ReadFault, Overflow}
-use Rattle.llapd.specs.Total.{total_of, IsTotal, Sums, BreaksBefore, IsOutcomeOf}
-use Rattle.llapd.specs.Meaning.{Found, no_file, not_built, values_in, Means}
+use Rattle.llapd.specs.declared.line.Outcome.TheVariants.{Sum, NoFile, Compressed, BrokenTail, NoColumn, WrongKind, BrokenFooter, NotBuilt, ReadFault, Overflow}
+use Rattle.orc_tail.specs.declared.stripe.Stripe.{Stripe}
+use Rattle.llapd.specs.Total.{total_of, IsTotal}
+use Rattle.llapd.specs.StripeColumn.{StripeColumn, fails, values_in, stripe_column, Spelled, BreaksBefore, HasValues, FailsBy}
+use Rattle.llapd.specs.Stripes.{HaveValues, FirstFails, IsOutcomeOf, broken, summed}
+use Rattle.llapd.specs.Stripes.HaveValues.{none as have_none, next as have_next}
+use Rattle.llapd.specs.Stripes.FirstFails.{here, later}
+use Rattle.llapd.specs.Meaning.{Found, column_in, Means}
+use Rattle.llapd.specs.Meaning.{fails as found_fails}
 
 abbrev Read : Type 0
 Read = List ℤ × List ℕ
@@ -68,58 +74,92 @@ spells_one stream rest rest' values values' len (held, at) (held', at') =
     by_fronts (inl (more, is)) = same_front values values' (held ++ more) held' len (sym (append_assoc values held more) ∙ is)
     by_fronts (inr (more, is)) = sym (same_front values' values (held' ++ more) held (sym len) (sym (append_assoc values' held' more) ∙ is))
 
+-- ---- the total of values
+
 one_total : (values : List ℤ) (o p : Outcome) → IsTotal values o → IsTotal values p → o ≡ p
 one_total values (Sum None) (Sum None) a b = refl
 one_total values (Sum None) (Sum (Some u)) a b = absurd (b.0 a)
 one_total values (Sum None) Overflow a b = absurd (b (subst (λ (v : List ℤ). FitsSigned w64 (total_of v)) (sym a) (omega arith)))
 one_total values (Sum None) NoFile a b = absurd b
+one_total values (Sum None) (Compressed k) a b = absurd b
+one_total values (Sum None) (BrokenTail f) a b = absurd b
+one_total values (Sum None) (NoColumn c) a b = absurd b
+one_total values (Sum None) (WrongKind c) a b = absurd b
+one_total values (Sum None) (BrokenFooter n f) a b = absurd b
 one_total values (Sum None) NotBuilt a b = absurd b
 one_total values (Sum None) ReadFault a b = absurd b
 one_total values (Sum (Some t)) (Sum None) a b = absurd (a.0 b)
 one_total values (Sum (Some t)) (Sum (Some u)) a b = ap (λ (z : ℤ). Sum (Some z)) (a.1 ∙ sym b.1)
 one_total values (Sum (Some t)) Overflow a b = absurd (b (subst (λ (z : ℤ). FitsSigned w64 z) a.1 a.2))
 one_total values (Sum (Some t)) NoFile a b = absurd b
+one_total values (Sum (Some t)) (Compressed k) a b = absurd b
+one_total values (Sum (Some t)) (BrokenTail f) a b = absurd b
+one_total values (Sum (Some t)) (NoColumn c) a b = absurd b
+one_total values (Sum (Some t)) (WrongKind c) a b = absurd b
+one_total values (Sum (Some t)) (BrokenFooter n f) a b = absurd b
 one_total values (Sum (Some t)) NotBuilt a b = absurd b
 one_total values (Sum (Some t)) ReadFault a b = absurd b
 one_total values Overflow (Sum None) a b = absurd (a (subst (λ (v : List ℤ). FitsSigned w64 (total_of v)) (sym b) (omega arith)))
 one_total values Overflow (Sum (Some u)) a b = absurd (a (subst (λ (z : ℤ). FitsSigned w64 z) b.1 b.2))
 one_total values Overflow Overflow a b = refl
 one_total values Overflow NoFile a b = absurd b
+one_total values Overflow (Compressed k) a b = absurd b
+one_total values Overflow (BrokenTail f) a b = absurd b
+one_total values Overflow (NoColumn c) a b = absurd b
+one_total values Overflow (WrongKind c) a b = absurd b
+one_total values Overflow (BrokenFooter n f) a b = absurd b
 one_total values Overflow NotBuilt a b = absurd b
 one_total values Overflow ReadFault a b = absurd b
 one_total values NoFile p a b = absurd a
+one_total values (Compressed k) p a b = absurd a
+one_total values (BrokenTail f) p a b = absurd a
+one_total values (NoColumn c) p a b = absurd a
+one_total values (WrongKind c) p a b = absurd a
+one_total values (BrokenFooter n f) p a b = absurd a
 one_total values NotBuilt p a b = absurd a
 one_total values ReadFault p a b = absurd a
 
-one_sum : (rows : ℕ) (stream : List ℕ) (o p : Outcome) → Sums rows stream o → Sums rows stream p → o ≡ p
-one_sum rows stream o p a b =
-    let same : a.values ≡ b.values = spells_one stream a.rest b.rest a.values b.values (a.count ∙ sym b.count) a.spells b.spells in
-    one_total b.values o p (subst (λ (v : List ℤ). IsTotal v o) same a.total) b.total
+-- ---- the column of a stripe
 
-never_both : (rows : ℕ) (stream : List ℕ) (o : Outcome) → Sums rows stream o → BreaksBefore rows stream → ⊥
-never_both rows stream o a (fault, breaks) =
-    Spells-not-breaks (IntRun1 true) (int_run1 true) (int_run1_reads true) stream a.rest a.values rows fault a.spells (omega (arith, a.count)) breaks
+has_one : (c : StripeColumn) (v w : List ℤ) → HasValues c v → HasValues c w → v ≡ w
+has_one (fails failure) v w a b = absurd a
+has_one (values_in rows stream) v w a b = spells_one stream a.rest b.rest v w (a.count ∙ sym b.count) a.spells b.spells
 
-one_outcome : (rows : ℕ) (stream : List ℕ) (o p : Outcome) → IsOutcomeOf rows stream o → IsOutcomeOf rows stream p → o ≡ p
-one_outcome rows stream NotBuilt NotBuilt a b = refl
-one_outcome rows stream NotBuilt (Sum u) a b = absurd (never_both rows stream (Sum u) b a)
-one_outcome rows stream NotBuilt Overflow a b = absurd (never_both rows stream Overflow b a)
-one_outcome rows stream NotBuilt NoFile a b = absurd b
-one_outcome rows stream NotBuilt ReadFault a b = absurd b
-one_outcome rows stream (Sum t) NotBuilt a b = absurd (never_both rows stream (Sum t) a b)
-one_outcome rows stream (Sum t) (Sum u) a b = one_sum rows stream (Sum t) (Sum u) a b
-one_outcome rows stream (Sum t) Overflow a b = one_sum rows stream (Sum t) Overflow a b
-one_outcome rows stream (Sum t) NoFile a b = absurd b
-one_outcome rows stream (Sum t) ReadFault a b = absurd b
-one_outcome rows stream Overflow NotBuilt a b = absurd (never_both rows stream Overflow a b)
-one_outcome rows stream Overflow (Sum u) a b = one_sum rows stream Overflow (Sum u) a b
-one_outcome rows stream Overflow Overflow a b = refl
-one_outcome rows stream Overflow NoFile a b = absurd b
-one_outcome rows stream Overflow ReadFault a b = absurd b
-one_outcome rows stream NoFile p a b = absurd a
-one_outcome rows stream ReadFault p a b = absurd a
+fails_one : (c : StripeColumn) (o p : Outcome) → FailsBy c o → FailsBy c p → o ≡ p
+fails_one (fails failure) o p a b = a ∙ sym b
+fails_one (values_in rows stream) o p a b = a.1 ∙ sym b.1
+
+never_both : (c : StripeColumn) (v : List ℤ) (o : Outcome) → HasValues c v → FailsBy c o → ⊥
+never_both (fails failure) v o a b = absurd a
+never_both (values_in rows stream) v o a b =
+    Spells-not-breaks (IntRun1 true) (int_run1 true) (int_run1_reads true) stream a.rest v rows b.0.0 a.spells (omega (arith, a.count)) b.0.1
+
+-- ---- the column over the stripes
+
+have_one : (file : List ℕ) (column number : ℕ) (stripes : List Stripe) {v w : List ℤ} → HaveValues file column number stripes v → HaveValues file column number stripes w → v ≡ w
+have_one file column number [] have_none have_none = refl
+have_one file column number (s ∷ stripes) (have_next v vs a xs) (have_next w ws b ys) =
+    ap (λ (x : List ℤ). x ++ vs) (has_one (stripe_column file number s column) v w a b) ∙ ap (λ (x : List ℤ). w ++ x) (have_one file column (number + 1) stripes xs ys)
+
+first_one : (file : List ℕ) (column number : ℕ) (stripes : List Stripe) (o p : Outcome) → FirstFails file column number stripes o → FirstFails file column number stripes p → o ≡ p
+first_one file column number [] o p a b = elim a [ ]
+first_one file column number (s ∷ stripes) o p (here a) (here b) = fails_one (stripe_column file number s column) o p a b
+first_one file column number (s ∷ stripes) o p (here a) (later w b ys) = absurd (never_both (stripe_column file number s column) w o b a)
+first_one file column number (s ∷ stripes) o p (later v a xs) (here b) = absurd (never_both (stripe_column file number s column) v p a b)
+first_one file column number (s ∷ stripes) o p (later v a xs) (later w b ys) = first_one file column (number + 1) stripes o p xs ys
+
+have_never_fail : (file : List ℕ) (column number : ℕ) (stripes : List Stripe) {v : List ℤ} (o : Outcome) → HaveValues file column number stripes v → FirstFails file column number stripes o → ⊥
+have_never_fail file column number [] o a b = elim b [ ]
+have_never_fail file column number (s ∷ stripes) o (have_next v vs a xs) (here b) = never_both (stripe_column file number s column) v o a b
+have_never_fail file column number (s ∷ stripes) o (have_next v vs a xs) (later w b ys) = have_never_fail file column (number + 1) stripes o xs ys
+
+one_outcome : (file : List ℕ) (stripes : List Stripe) (column : ℕ) (o p : Outcome) → IsOutcomeOf file stripes column o → IsOutcomeOf file stripes column p → o ≡ p
+one_outcome file stripes column o p (broken a) (broken b) = first_one file column 0 stripes o p a b
+one_outcome file stripes column o p (broken a) (summed {values = w} b t) = absurd (have_never_fail file column 0 stripes o b a)
+one_outcome file stripes column o p (summed {values = v} a t) (broken b) = absurd (have_never_fail file column 0 stripes p a b)
+one_outcome file stripes column o p (summed {values = v} a t) (summed {values = w} b u) =
+    one_total w o p (subst (λ (x : List ℤ). IsTotal x o) (have_one file column 0 stripes a b) t) u
 
 pub one_meaning : (f : Found) (o p : Outcome) → Means f o → Means f p → o ≡ p
-one_meaning no_file o p a b = a ∙ sym b
-one_meaning not_built o p a b = a ∙ sym b
-one_meaning (values_in rows stream) o p a b = one_outcome rows stream o p a b
+one_meaning (found_fails failure) o p a b = a ∙ sym b
+one_meaning (column_in file stripes column) o p a b = one_outcome file stripes column o p a b

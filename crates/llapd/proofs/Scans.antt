@@ -9,23 +9,32 @@ use Rattle.orc_tail.specs.declared.fault.TailFault.TheVariants as fault
 use Rattle.orc_tail.specs.declared.stripe.Stripe.{Stripe}
 use Rattle.orc_tail.specs.declared.columns.TopColumn.{TopColumn}
 use Rattle.orc_tail.specs.declared.stream.StreamRange.{StreamRange}
-use Rattle.orc_tail.specs.declared.encoding.Encoding.{Encoding}
 use Rattle.orc_tail.specs.declared.stripe_footer.StripeFooter.{StripeFooter}
 use Rattle.orc_tail.specs.declared.tail.Tail.{Tail}
-use Rattle.orc_tail.specs.Tail.{tail, column_named, stripe_end}
+use Rattle.orc_tail.specs.Tail.{tail, column_named}
 use Rattle.orc_tail.specs.Reads.{ending, tail_plan, stripe_footer_plan}
 use Rattle.orc_tail.specs.StripeFooter.{stripe_footer, first_stream, has_bytes, FollowEachOther}
-use Rattle.llapd.specs.Meaning.{Found, not_built, values_in, stream_bytes, is_direct, found_streams, found_footer, found_stripe, found_tail, found_in}
-use Rattle.llapd.specs.Scan.{stop_of, one_long, stream_span, direct_span, Locates}
+use Rattle.llapd.specs.declared.stop.Stop.{Stop}
+use Rattle.llapd.specs.declared.stop.Stop.TheVariants as stop
+use Rattle.llapd.specs.declared.line.Outcome.{Outcome}
+use Rattle.llapd.specs.declared.line.Outcome.TheVariants.{NotBuilt}
+use Rattle.llapd.specs.StripeColumn.{StripeColumn, fails, values_in, stream_bytes, is_direct, column_in_streams, column_by_footer, stripe_column, footer_failure}
+use Rattle.llapd.specs.Meaning.{Found, found_in, found_tail, found_column, column_in, column_number, tail_failure, Means}
+use Rattle.llapd.specs.Meaning.{fails as found_fails}
+use Rattle.llapd.specs.Scan.{stop_of, footer_stop, stream_span, direct_span, Locates, Judges, Sees}
 
 -- ---- the tail
 
-tail_decided : (column bytes : List ℕ) (e : TailFault) → tail bytes ≡ Err e → found_in column bytes ≡ not_built
-tail_decided column bytes e is = ap (λ (t : Result Tail TailFault). found_tail column bytes t) is
+-- a failure that was found is what that means
+pub fails_means : (f : Found) (failure : Outcome) → f ≡ found_fails failure → Means f failure
+fails_means f failure is = subst (λ (x : Found). Means x failure) (sym is) refl
+
+tail_decided : (column bytes : List ℕ) (e : TailFault) → tail bytes ≡ Err e → Means (found_in column bytes) (tail_failure e)
+tail_decided column bytes e is = fails_means (found_in column bytes) (tail_failure e) (ap (λ (t : Result Tail TailFault). found_tail column bytes t) is)
 
 -- the tail wasn't read
 pub tail_stops : (file : FileRef) (column bytes : List ℕ) (e : TailFault) (entries : List ReadEntry)
-    → Fits ending (tail_plan file bytes) (Err e) entries → Locates bytes (found_in column bytes) (Err (stop_of e))
+    → Fits ending (tail_plan file bytes) (Err e) entries → Sees (found_in column bytes) (Err (stop_of e))
 unfolding tail_plan
 tail_stops file column bytes fault.TooShort entries fits = tail_decided column bytes fault.TooShort fits.answer_is
 tail_stops file column bytes fault.NotOrc entries fits = tail_decided column bytes fault.NotOrc fits.answer_is
@@ -41,96 +50,62 @@ tail_stops file column bytes fault.NoMemory entries fits = tt
 
 -- the tail was read
 pub tail_found : (file : FileRef) (column bytes : List ℕ) (parts : Tail) (entries : List ReadEntry)
-    → Fits ending (tail_plan file bytes) (Ok parts) entries → found_in column bytes ≡ found_stripe bytes (column_named column parts.columns) parts.stripes
+    → Fits ending (tail_plan file bytes) (Ok parts) entries → found_in column bytes ≡ found_column bytes parts.stripes (column_number column (column_named column parts.columns))
 unfolding tail_plan
 tail_found file column bytes parts entries fits = ap (λ (t : Result Tail TailFault). found_tail column bytes t) fits.answer_is
 
--- ---- the stripe
+-- the column's number wasn't found
+pub number_stops : (f : Found) (bytes : List ℕ) (stripes : List Stripe) (judged : Result ℕ Outcome) (s : Stop) → f ≡ found_column bytes stripes judged → Judges judged (Err s) → Sees f (Err s)
+number_stops f bytes stripes judged (stop.Fails failure) is judges = fails_means f failure (is ∙ ap (λ (j : Result ℕ Outcome). found_column bytes stripes j) judges)
+number_stops f bytes stripes judged (stop.Read failed) is judges = tt
+number_stops f bytes stripes judged stop.NoMemory is judges = tt
 
-some_is : {A : Type 0} {x y : A} → Some x ≡ Some y → x ≡ y
-some_is p = cc
-
-abbrev if_long : Bool → Stripe → ℕ → Option (Stripe × ℕ)
-if_long long stripe number = if long then Some (stripe, number) else None
-
--- there isn't one stripe and a LONG column
-pub no_long : (bytes : List ℕ) (column : Option TopColumn) (stripes : List Stripe) → one_long column stripes ≡ None → found_stripe bytes column stripes ≡ not_built
-no_long bytes None stripes none = refl
-no_long bytes (Some column) [] none = refl
-no_long bytes (Some column) (stripe ∷ []) none = no_kind (column.kind == 4) bytes stripe column none
-  where
-    no_kind : (long : Bool) (bytes : List ℕ) (stripe : Stripe) (column : TopColumn) → if_long long stripe column.number ≡ None → (if long then found_footer bytes stripe column.number (stripe_footer bytes stripe) else not_built) ≡ not_built
-    no_kind true bytes stripe column none = absurd (cc)
-    no_kind false bytes stripe column none = refl
-no_long bytes (Some column) (stripe ∷ another ∷ others) none = refl
-
--- there is one stripe and a LONG column
-pub the_long : (bytes : List ℕ) (column : Option TopColumn) (stripes : List Stripe) (stripe : Stripe) (number : ℕ)
-    → one_long column stripes ≡ Some (stripe, number) → found_stripe bytes column stripes ≡ found_footer bytes stripe number (stripe_footer bytes stripe)
-the_long bytes None stripes stripe number some = absurd (cc)
-the_long bytes (Some column) [] stripe number some = absurd (cc)
-the_long bytes (Some column) (only ∷ []) stripe number some = the_kind (column.kind == 4) bytes only column stripe number some
-  where
-    the_kind : (long : Bool) (bytes : List ℕ) (only : Stripe) (column : TopColumn) (stripe : Stripe) (number : ℕ) → if_long long only column.number ≡ Some (stripe, number)
-        → (if long then found_footer bytes only column.number (stripe_footer bytes only) else not_built) ≡ found_footer bytes stripe number (stripe_footer bytes stripe)
-    the_kind true bytes only column stripe number some =
-        let same : only ≡ stripe = ap (λ (p : Stripe × ℕ). p.0) (some_is some) in
-        let place : column.number ≡ number = ap (λ (p : Stripe × ℕ). p.1) (some_is some) in
-        ap (λ (s : Stripe). found_footer bytes s column.number (stripe_footer bytes s)) same ∙ ap (λ (n : ℕ). found_footer bytes stripe n (stripe_footer bytes stripe)) place
-    the_kind false bytes only column stripe number some = absurd (cc)
-the_long bytes (Some column) (one ∷ another ∷ others) stripe number some = absurd (cc)
-
--- and it is the only one
-pub the_stripe : (column : Option TopColumn) (stripes : List Stripe) (stripe : Stripe) (number : ℕ)
-    → one_long column stripes ≡ Some (stripe, number) → (others : List Stripe) × (stripes ≡ stripe ∷ others)
-the_stripe None stripes stripe number some = absurd (cc)
-the_stripe (Some column) [] stripe number some = absurd (cc)
-the_stripe (Some column) (only ∷ []) stripe number some = the_kind (column.kind == 4) only column stripe number some
-  where
-    the_kind : (long : Bool) (only : Stripe) (column : TopColumn) (stripe : Stripe) (number : ℕ) → if_long long only column.number ≡ Some (stripe, number)
-        → (others : List Stripe) × (◌≡◌ {A = List Stripe} (only ∷ []) (stripe ∷ others))
-    the_kind true only column stripe number some = ([], ap (λ (p : Stripe × ℕ). p.0 ∷ []) (some_is some))
-    the_kind false only column stripe number some = absurd (cc)
-the_stripe (Some column) (one ∷ another ∷ others) stripe number some = absurd (cc)
+-- and it was found
+pub number_found : (f : Found) (bytes : List ℕ) (stripes : List Stripe) (judged : Result ℕ Outcome) (number : ℕ) → f ≡ found_column bytes stripes judged → judged ≡ Ok number → f ≡ column_in bytes stripes number
+number_found f bytes stripes judged number is ok = is ∙ ap (λ (j : Result ℕ Outcome). found_column bytes stripes j) ok
 
 -- ---- the stripe's footer
 
-footer_decided : (bytes : List ℕ) (stripe : Stripe) (number : ℕ) (e : TailFault) → stripe_footer bytes stripe ≡ Err e → found_footer bytes stripe number (stripe_footer bytes stripe) ≡ not_built
-footer_decided bytes stripe number e is = ap (λ (f : Result StripeFooter TailFault). found_footer bytes stripe number f) is
+footer_decided : (bytes : List ℕ) (index : ℕ) (stripe : Stripe) (number : ℕ) (e : TailFault) → stripe_footer bytes stripe ≡ Err e
+    → stripe_column bytes index stripe number ≡ fails (footer_failure index e)
+footer_decided bytes index stripe number e is = ap (λ (f : Result StripeFooter TailFault). column_by_footer bytes index stripe number f) is
 
 -- the footer wasn't read
-pub footer_stops : (file : FileRef) (bytes : List ℕ) (stripe : Stripe) (number : ℕ) (e : TailFault) (entries : List ReadEntry)
-    → Fits ending (stripe_footer_plan file stripe bytes) (Err e) entries → Locates bytes (found_footer bytes stripe number (stripe_footer bytes stripe)) (Err (stop_of e))
+pub footer_stops : (file : FileRef) (bytes : List ℕ) (index : ℕ) (stripe : Stripe) (number : ℕ) (e : TailFault) (entries : List ReadEntry)
+    → Fits ending (stripe_footer_plan file stripe bytes) (Err e) entries → Locates bytes (stripe_column bytes index stripe number) (Err (footer_stop index e))
 unfolding stripe_footer_plan
-footer_stops file bytes stripe number fault.TooShort entries fits = footer_decided bytes stripe number fault.TooShort fits.answer_is
-footer_stops file bytes stripe number fault.NotOrc entries fits = footer_decided bytes stripe number fault.NotOrc fits.answer_is
-footer_stops file bytes stripe number (fault.Compressed kind) entries fits = footer_decided bytes stripe number (fault.Compressed kind) fits.answer_is
-footer_stops file bytes stripe number (fault.Wire wire) entries fits = footer_decided bytes stripe number (fault.Wire wire) fits.answer_is
-footer_stops file bytes stripe number fault.OutOfFile entries fits = footer_decided bytes stripe number fault.OutOfFile fits.answer_is
-footer_stops file bytes stripe number fault.BadTypes entries fits = footer_decided bytes stripe number fault.BadTypes fits.answer_is
-footer_stops file bytes stripe number fault.TooLarge entries fits = footer_decided bytes stripe number fault.TooLarge fits.answer_is
-footer_stops file bytes stripe number fault.RootPresent entries fits = footer_decided bytes stripe number fault.RootPresent fits.answer_is
-footer_stops file bytes stripe number fault.StreamOutOfStripe entries fits = footer_decided bytes stripe number fault.StreamOutOfStripe fits.answer_is
-footer_stops file bytes stripe number (fault.Read failed) entries fits = tt
-footer_stops file bytes stripe number fault.NoMemory entries fits = tt
+footer_stops file bytes index stripe number fault.TooShort entries fits = footer_decided bytes index stripe number fault.TooShort fits.answer_is
+footer_stops file bytes index stripe number fault.NotOrc entries fits = footer_decided bytes index stripe number fault.NotOrc fits.answer_is
+footer_stops file bytes index stripe number (fault.Compressed kind) entries fits = footer_decided bytes index stripe number (fault.Compressed kind) fits.answer_is
+footer_stops file bytes index stripe number (fault.Wire wire) entries fits = footer_decided bytes index stripe number (fault.Wire wire) fits.answer_is
+footer_stops file bytes index stripe number fault.OutOfFile entries fits = footer_decided bytes index stripe number fault.OutOfFile fits.answer_is
+footer_stops file bytes index stripe number fault.BadTypes entries fits = footer_decided bytes index stripe number fault.BadTypes fits.answer_is
+footer_stops file bytes index stripe number fault.TooLarge entries fits = footer_decided bytes index stripe number fault.TooLarge fits.answer_is
+footer_stops file bytes index stripe number fault.RootPresent entries fits = footer_decided bytes index stripe number fault.RootPresent fits.answer_is
+footer_stops file bytes index stripe number fault.StreamOutOfStripe entries fits = footer_decided bytes index stripe number fault.StreamOutOfStripe fits.answer_is
+footer_stops file bytes index stripe number (fault.Read failed) entries fits = tt
+footer_stops file bytes index stripe number fault.NoMemory entries fits = tt
 
 -- the footer was read
-pub footer_found : (file : FileRef) (bytes : List ℕ) (stripe : Stripe) (number : ℕ) (footer : StripeFooter) (entries : List ReadEntry)
-    → Fits ending (stripe_footer_plan file stripe bytes) (Ok footer) entries → found_footer bytes stripe number (stripe_footer bytes stripe) ≡ found_streams bytes stripe.rows number footer
+pub footer_found : (file : FileRef) (bytes : List ℕ) (index : ℕ) (stripe : Stripe) (number : ℕ) (footer : StripeFooter) (entries : List ReadEntry)
+    → Fits ending (stripe_footer_plan file stripe bytes) (Ok footer) entries → stripe_column bytes index stripe number ≡ column_in_streams bytes stripe.rows number footer
 unfolding stripe_footer_plan
-footer_found file bytes stripe number footer entries fits = ap (λ (f : Result StripeFooter TailFault). found_footer bytes stripe number f) fits.answer_is
+footer_found file bytes index stripe number footer entries fits = ap (λ (f : Result StripeFooter TailFault). column_by_footer bytes index stripe number f) fits.answer_is
 
 -- ---- the streams
+
+some_is : {A : Type 0} {x y : A} → Some x ≡ Some y → x ≡ y
+some_is p = cc
 
 abbrev if_direct : Bool → Bool → Option StreamRange → Option (ℕ × ℕ)
 if_direct direct present d = if direct then (if present then None else Some (stream_span d)) else None
 
 -- the column isn't DIRECT, or something is null
-pub no_direct : (bytes : List ℕ) (rows number : ℕ) (footer : StripeFooter) → direct_span number footer ≡ None → found_streams bytes rows number footer ≡ not_built
+pub no_direct : (bytes : List ℕ) (rows number : ℕ) (footer : StripeFooter) → direct_span number footer ≡ None → column_in_streams bytes rows number footer ≡ fails NotBuilt
 no_direct bytes rows number footer none = by_tests (is_direct (slice_get footer.encodings number)) (has_bytes (first_stream 0 number footer.streams)) bytes rows (first_stream 1 number footer.streams) none
   where
     by_tests : (direct present : Bool) (bytes : List ℕ) (rows : ℕ) (d : Option StreamRange) → if_direct direct present d ≡ None
-        → (if direct then (if present then not_built else values_in rows (stream_bytes bytes d)) else not_built) ≡ not_built
+        → (if direct then (if present then fails NotBuilt else values_in rows (stream_bytes bytes d)) else fails NotBuilt) ≡ fails NotBuilt
     by_tests true true bytes rows d none = refl
     by_tests true false bytes rows d none = absurd (cc)
     by_tests false present bytes rows d none = refl
@@ -141,11 +116,11 @@ bytes_in_span bytes (Some s) at len is = ap (λ (span : ℕ × ℕ). slice_range
 
 -- the values lie there
 pub the_direct : (bytes : List ℕ) (rows number : ℕ) (footer : StripeFooter) (at len : ℕ) → direct_span number footer ≡ Some (at, len)
-    → found_streams bytes rows number footer ≡ values_in rows (slice_range bytes at (at + len))
+    → column_in_streams bytes rows number footer ≡ values_in rows (slice_range bytes at (at + len))
 the_direct bytes rows number footer at len some = by_tests (is_direct (slice_get footer.encodings number)) (has_bytes (first_stream 0 number footer.streams)) bytes rows (first_stream 1 number footer.streams) at len some
   where
     by_tests : (direct present : Bool) (bytes : List ℕ) (rows : ℕ) (d : Option StreamRange) (at len : ℕ) → if_direct direct present d ≡ Some (at, len)
-        → (if direct then (if present then not_built else values_in rows (stream_bytes bytes d)) else not_built) ≡ values_in rows (slice_range bytes at (at + len))
+        → (if direct then (if present then fails NotBuilt else values_in rows (stream_bytes bytes d)) else fails NotBuilt) ≡ values_in rows (slice_range bytes at (at + len))
     by_tests true true bytes rows d at len some = absurd (cc)
     by_tests true false bytes rows d at len some = ap (λ (xs : List ℕ). values_in rows xs) (let is : stream_span d ≡ (at, len) = some_is some in bytes_in_span bytes d at len is)
     by_tests false present bytes rows d at len some = absurd (cc)
@@ -173,11 +148,3 @@ direct_within number footer begin limit at len follow some = by_tests (is_direct
     by_tests true true d at len limit some fits = absurd (cc)
     by_tests true false d at len limit some fits = let is : stream_span d ≡ (at, len) = some_is some in by_span d at len limit is fits
     by_tests false present d at len limit some fits = absurd (cc)
-
--- the one stripe ends in the file, as all do
-pub the_stripe_ends : (column : Option TopColumn) (stripes : List Stripe) (stripe : Stripe) (number len : ℕ) → one_long column stripes ≡ Some (stripe, number)
-    → All (λ (s : Stripe). stripe_end s ≤ len) stripes → stripe_end stripe ≤ len
-the_stripe_ends column stripes stripe number len some all =
-    let parts = the_stripe column stripes stripe number some in
-    let these : All (λ (s : Stripe). stripe_end s ≤ len) (stripe ∷ parts.0) = subst (λ (xs : List Stripe). All (λ (s : Stripe). stripe_end s ≤ len) xs) parts.1 all in
-    these 0 stripe (omega arith)

@@ -10,10 +10,8 @@ use Rattle.outside.specs.Runs.{Spells, Between, Breaks, Fewest}
 use Rattle.outside.specs.Runs.Fewest.{no_run}
 use Rattle.outside.specs.Filling.{Continues, BreaksWith}
 use Rattle.orc_rle.specs.IntRun1.{IntRun1, int_run1}
-use Rattle.std.specs.Prelude.{FitsSigned}
-use Rattle.std.specs.Int.{w64}
-use Rattle.llapd.specs.declared.line.Outcome.TheVariants.{Sum, Overflow}
-use Rattle.llapd.specs.Total.{total_of, BreaksBefore, IsTotal, Sums, IsOutcomeOf}
+use Rattle.llapd.specs.Total.{total_of}
+use Rattle.llapd.specs.StripeColumn.{BreaksBefore}
 use Rattle.llapd.specs.Sum.{SumsTo, SummedSoFar}
 use Rattle.std.proofs.lemmas.List.Sums.{fold-append}
 
@@ -105,40 +103,3 @@ no_fault (Err fault) ok = absurd (true_is_false ok)
   where
     true_is_false : true ≡ false → ⊥
     true_is_false p = cc
-
-no_values : (values : List ℤ) → length values ≡ 0 → values ≡ []
-no_values [] len = refl
-no_values (v ∷ vs) len = absurd (omega arith)
-
-some_values : (values : List ℤ) (n : ℕ) → length values ≡ n → n ≢ 0 → values ≢ []
-some_values values n len some empty = some (sym len ∙ ap (λ (vs : List ℤ). length vs) empty)
-
--- there is no row, so there is no value
-pub outcome_none : (rows : ℕ) (stream : List ℕ) (total : ℤ) → rows ≡ 0 → SumsTo rows stream total → IsOutcomeOf rows stream (Sum None)
-outcome_none rows stream total none sums = record {
-  values = sums.values;
-  rest = sums.rest;
-  count = sums.count;
-  spells = sums.spells;
-  total = no_values sums.values (sums.count ∙ none);
-}
-
--- the total is a number of 64 bits
-pub outcome_some : (rows : ℕ) (stream : List ℕ) (total sum : ℤ) → rows ≢ 0 → sum ≡ total → FitsSigned w64 sum → SumsTo rows stream total → IsOutcomeOf rows stream (Sum (Some sum))
-outcome_some rows stream total sum some same fits sums = record {
-  values = sums.values;
-  rest = sums.rest;
-  count = sums.count;
-  spells = sums.spells;
-  total = (some_values sums.values rows sums.count some, same ∙ sums.total_is, fits);
-}
-
--- the total leaves 64 bits
-pub outcome_overflow : (rows : ℕ) (stream : List ℕ) (total : ℤ) → ¬ (FitsSigned w64 total) → SumsTo rows stream total → IsOutcomeOf rows stream Overflow
-outcome_overflow rows stream total leaves sums = record {
-  values = sums.values;
-  rest = sums.rest;
-  count = sums.count;
-  spells = sums.spells;
-  total = subst (λ (t : ℤ). ¬ (FitsSigned w64 t)) sums.total_is leaves;
-}

@@ -4,7 +4,8 @@ use Rattle.outside.specs.Cause.{Rose}
 use Rattle.outside.specs.Files.{Files}
 use Rattle.outside.specs.Told.{Extended}
 use Rattle.llapd.specs.declared.line.Outcome.{Outcome}
-use Rattle.llapd.specs.declared.line.Outcome.TheVariants.{Sum, NoFile, NotBuilt, ReadFault, Overflow}
+use Rattle.llapd.specs.declared.line.Outcome.TheVariants.{Sum, NoFile, Compressed, BrokenTail, NoColumn, WrongKind, BrokenFooter, NotBuilt, ReadFault, Overflow}
+use Rattle.llapd.specs.Faults.{IsWorded}
 use Rattle.llapd.specs.declared.status.Status.{Status}
 use Rattle.llapd.specs.declared.status.Status.TheVariants.{Done, SomeFailed, Usage, BadPlan, WriteFault, PlanFault, NoMemory}
 use Rattle.llapd.specs.Words.{AreGoodWords, usage_text}
@@ -17,8 +18,10 @@ use Rattle.llapd.specs.Meaning.{found, Means}
 abbrev pub most_read : ℕ
 most_read = 1048577
 
--- The outcome of a scan: a read fault only where the store's faults rose, and else its meaning, where files are told.
+-- The outcome of a scan: a read fault only where the store's faults rose, and else its meaning, where files are told. A
+-- fault that it holds has words.
 pub record HasOutcome (told : Option Files) (faults faults' : ℕ) (file column : List ℕ) (outcome : Outcome) : Type 0 where
+  pub worded : IsWorded outcome
   pub fault : outcome ≡ ReadFault → Rose faults faults'
   pub meaning : (files : Files) → told ≡ Some files → outcome ≢ ReadFault → Means (found files file column) outcome
 
@@ -30,6 +33,11 @@ IsReadWhole left left' bytes = (all : List ℕ) → left ≡ Some all → (bytes
 abbrev pub status_of : Outcome → Status
 status_of (Sum total) = Done
 status_of NoFile = SomeFailed
+status_of (Compressed kind) = SomeFailed
+status_of (BrokenTail fault) = SomeFailed
+status_of (NoColumn column) = SomeFailed
+status_of (WrongKind column) = SomeFailed
+status_of (BrokenFooter stripe fault) = SomeFailed
 status_of NotBuilt = SomeFailed
 status_of ReadFault = SomeFailed
 status_of Overflow = SomeFailed

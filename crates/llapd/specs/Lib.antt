@@ -1,3 +1,4 @@
+pub mod Faults
 pub mod Headline
 pub mod Laws
 pub mod Line
@@ -6,6 +7,8 @@ pub mod PlanBytes
 pub mod Scan
 pub mod StatusCode
 pub mod Steps
+pub mod StripeColumn
+pub mod Stripes
 pub mod Sum
 pub mod SumPlan
 pub mod SumWords

@@ -1,69 +1,62 @@
 -- What a fragment that sums one column means, on the files' bytes. Source: Apache ORC specification v1 for the
--- tail, the footer and the runs; the outcomes are this project's own.
-use Rattle.std.specs.Prelude.{◌≡◌, ℕ, ◌+◌, ◌==◌, Bool, false, List, [], ◌∷◌, slice_range, slice_get, Option, Some, None, Result, Ok, Err, if◌then◌else◌}
+-- tail; the outcomes and their order are this project's own: no file of the name, a tail that is refused, no column of the
+-- name, a column of the wrong kind, the least stripe that fails, and a total that leaves 64 bits.
+use Rattle.std.specs.Prelude.{◌≡◌, ℕ, ◌==◌, ◌||◌, Bool, List, Option, Some, None, Result, Ok, Err, if◌then◌else◌}
 use Rattle.outside.specs.Files.{Files, file_named, bytes_of}
 use Rattle.outside.specs.declared.file_ref.FileRef.{FileRef}
 use Rattle.orc_tail.specs.declared.stripe.Stripe.{Stripe}
-use Rattle.orc_tail.specs.declared.stream.StreamRange.{StreamRange}
-use Rattle.orc_tail.specs.declared.encoding.Encoding.{Encoding}
 use Rattle.orc_tail.specs.declared.columns.TopColumn.{TopColumn}
-use Rattle.orc_tail.specs.declared.stripe_footer.StripeFooter.{StripeFooter}
 use Rattle.orc_tail.specs.declared.tail.Tail.{Tail}
 use Rattle.orc_tail.specs.declared.fault.TailFault.{TailFault}
+use Rattle.orc_tail.specs.declared.fault.TailFault.TheVariants as fault
 use Rattle.orc_tail.specs.Tail.{tail, column_named}
-use Rattle.orc_tail.specs.StripeFooter.{stripe_footer, first_stream, has_bytes}
 use Rattle.llapd.specs.declared.line.Outcome.{Outcome}
-use Rattle.llapd.specs.declared.line.Outcome.TheVariants.{NoFile, NotBuilt}
-use Rattle.llapd.specs.Total.{IsOutcomeOf}
+use Rattle.llapd.specs.declared.line.Outcome.TheVariants.{NoFile, Compressed, BrokenTail, NoColumn, WrongKind}
+use Rattle.llapd.specs.Stripes.{IsOutcomeOf}
 
--- What a scan finds of the column that it sums: no file of the name, a file that isn't whole, hasn't the column or has
--- a form that this program doesn't read yet, or a number of rows and the bytes of the stream that has their values.
+-- What a scan finds of the column that it sums: a failure, or a column of that number in those stripes of a file.
 pub data Found : Type 0 where
-  no_file : Found
-  not_built : Found
-  values_in : ℕ → List ℕ → Found
+  fails : Outcome → Found
+  column_in : List ℕ → List Stripe → ℕ → Found
 
--- the bytes of a stream; of one that isn't there, none
-abbrev pub stream_bytes : List ℕ → Option StreamRange → List ℕ
-stream_bytes file None = []
-stream_bytes file (Some stream) = slice_range file stream.at (stream.at + stream.len)
+-- the kind of a column of numbers that can be summed: SHORT, INT or LONG
+abbrev pub is_summed : ℕ → Bool
+is_summed kind = kind == 2 || kind == 3 || kind == 4
 
--- the encoding is there, and is DIRECT
-abbrev pub is_direct : Option Encoding → Bool
-is_direct None = false
-is_direct (Some encoding) = encoding.kind == 0
+-- the number of a column of that name, or why it can't be summed
+abbrev pub column_number : List ℕ → Option TopColumn → Result ℕ Outcome
+column_number name None = Err (NoColumn name)
+column_number name (Some column) = if is_summed column.kind then Ok column.number else Err (WrongKind name)
 
--- the column of a stripe: it is spelled DIRECT, and nothing is null
-abbrev pub found_streams : List ℕ → ℕ → ℕ → StripeFooter → Found
-found_streams file rows column footer =
-    if is_direct (slice_get footer.encodings column) then
-    (if has_bytes (first_stream 0 column footer.streams) then not_built
-    else values_in rows (stream_bytes file (first_stream 1 column footer.streams)))
-    else not_built
+abbrev pub found_column : List ℕ → List Stripe → Result ℕ Outcome → Found
+found_column file stripes (Err failure) = fails failure
+found_column file stripes (Ok column) = column_in file stripes column
 
-abbrev pub found_footer : List ℕ → Stripe → ℕ → Result StripeFooter TailFault → Found
-found_footer file stripe column (Err fault) = not_built
-found_footer file stripe column (Ok footer) = found_streams file stripe.rows column footer
-
--- there is one stripe, and the column is a LONG
-abbrev pub found_stripe : List ℕ → Option TopColumn → List Stripe → Found
-found_stripe file None stripes = not_built
-found_stripe file (Some column) [] = not_built
-found_stripe file (Some column) (stripe ∷ []) =
-    if column.kind == 4 then found_footer file stripe column.number (stripe_footer file stripe) else not_built
-found_stripe file (Some column) (stripe ∷ another ∷ others) = not_built
+-- the failure by a fault of the tail: a compression is one of its own
+abbrev pub tail_failure : TailFault → Outcome
+tail_failure (fault.Compressed kind) = Compressed kind
+tail_failure fault.TooShort = BrokenTail fault.TooShort
+tail_failure fault.NotOrc = BrokenTail fault.NotOrc
+tail_failure (fault.Wire wire) = BrokenTail (fault.Wire wire)
+tail_failure fault.OutOfFile = BrokenTail fault.OutOfFile
+tail_failure fault.BadTypes = BrokenTail fault.BadTypes
+tail_failure fault.TooLarge = BrokenTail fault.TooLarge
+tail_failure fault.RootPresent = BrokenTail fault.RootPresent
+tail_failure fault.StreamOutOfStripe = BrokenTail fault.StreamOutOfStripe
+tail_failure (fault.Read failed) = BrokenTail (fault.Read failed)
+tail_failure fault.NoMemory = BrokenTail fault.NoMemory
 
 abbrev pub found_tail : List ℕ → List ℕ → Result Tail TailFault → Found
-found_tail column file (Err fault) = not_built
-found_tail column file (Ok parts) = found_stripe file (column_named column parts.columns) parts.stripes
+found_tail name file (Err fault) = fails (tail_failure fault)
+found_tail name file (Ok parts) = found_column file parts.stripes (column_number name (column_named name parts.columns))
 
 -- the column of that name in a file's bytes
 abbrev pub found_in : List ℕ → List ℕ → Found
-found_in column file = found_tail column file (tail file)
+found_in name file = found_tail name file (tail file)
 
 abbrev pub found_bytes : List ℕ → Option (List ℕ) → Found
-found_bytes column None = no_file
-found_bytes column (Some file) = found_in column file
+found_bytes name None = fails NoFile
+found_bytes name (Some file) = found_in name file
 
 abbrev pub bytes_at : Files → Option FileRef → Option (List ℕ)
 bytes_at files None = None
@@ -75,6 +68,5 @@ found files file column = found_bytes column (bytes_at files (file_named file fi
 
 -- What the scan's outcome is by what it finds.
 abbrev pub Means : Found → Outcome → Type 0
-Means no_file outcome = outcome ≡ NoFile
-Means not_built outcome = outcome ≡ NotBuilt
-Means (values_in rows stream) outcome = IsOutcomeOf rows stream outcome
+Means (fails failure) outcome = outcome ≡ failure
+Means (column_in file stripes column) outcome = IsOutcomeOf file stripes column outcome

@@ -1,38 +1,49 @@
 -- What a scan's steps answer, by what the file's bytes make of them. Source: this project's own.
-use Rattle.std.specs.Prelude.{◌≡◌, ℕ, ◌+◌, ◌==◌, List, [], ◌∷◌, slice_range, slice_get, Option, Some, None, Result, Ok, Err, if◌then◌else◌}
+use Rattle.std.specs.Prelude.{◌≡◌, ◌≢◌, ℕ, ℤ, ◌+◌, List, length, slice_range, slice_get, Option, Some, None, Result, Ok, Err, if◌then◌else◌}
 use Rattle.orc_tail.specs.declared.fault.TailFault.{TailFault}
 use Rattle.orc_tail.specs.declared.fault.TailFault.TheVariants as fault
 use Rattle.orc_tail.specs.declared.stripe.Stripe.{Stripe}
-use Rattle.orc_tail.specs.declared.columns.TopColumn.{TopColumn}
 use Rattle.orc_tail.specs.declared.stripe_footer.StripeFooter.{StripeFooter}
 use Rattle.orc_tail.specs.declared.stream.StreamRange.{StreamRange}
 use Rattle.orc_tail.specs.StripeFooter.{first_stream, has_bytes}
 use Rattle.llapd.specs.declared.stop.Stop.{Stop}
 use Rattle.llapd.specs.declared.stop.Stop.TheVariants as stop
 use Rattle.llapd.specs.declared.scan.Values.{Values}
+use Rattle.llapd.specs.declared.sum.StripeTotal.{StripeTotal}
 use Rattle.llapd.specs.declared.line.Outcome.{Outcome}
-use Rattle.llapd.specs.Meaning.{Found, not_built, values_in, is_direct, Means}
+use Rattle.llapd.specs.declared.line.Outcome.TheVariants.{ReadFault}
+use Rattle.llapd.specs.Faults.{IsWorded}
+use Rattle.llapd.specs.Total.{total_of}
+use Rattle.llapd.specs.StripeColumn.{StripeColumn, fails, values_in, is_direct, footer_failure, HasValues, FailsBy}
+use Rattle.llapd.specs.Meaning.{Found, tail_failure, Means}
 
--- what a scan makes of a fault of the file's tail or of a stripe's footer
+-- what a scan makes of a fault of the file's tail
 abbrev pub stop_of : TailFault → Stop
-stop_of fault.TooShort = stop.NotBuilt
-stop_of fault.NotOrc = stop.NotBuilt
-stop_of (fault.Compressed kind) = stop.NotBuilt
-stop_of (fault.Wire wire) = stop.NotBuilt
-stop_of fault.OutOfFile = stop.NotBuilt
-stop_of fault.BadTypes = stop.NotBuilt
-stop_of fault.TooLarge = stop.NotBuilt
-stop_of fault.RootPresent = stop.NotBuilt
-stop_of fault.StreamOutOfStripe = stop.NotBuilt
+stop_of fault.TooShort = stop.Fails (tail_failure fault.TooShort)
+stop_of fault.NotOrc = stop.Fails (tail_failure fault.NotOrc)
+stop_of (fault.Compressed kind) = stop.Fails (tail_failure (fault.Compressed kind))
+stop_of (fault.Wire wire) = stop.Fails (tail_failure (fault.Wire wire))
+stop_of fault.OutOfFile = stop.Fails (tail_failure fault.OutOfFile)
+stop_of fault.BadTypes = stop.Fails (tail_failure fault.BadTypes)
+stop_of fault.TooLarge = stop.Fails (tail_failure fault.TooLarge)
+stop_of fault.RootPresent = stop.Fails (tail_failure fault.RootPresent)
+stop_of fault.StreamOutOfStripe = stop.Fails (tail_failure fault.StreamOutOfStripe)
 stop_of (fault.Read failed) = stop.Read failed
 stop_of fault.NoMemory = stop.NoMemory
 
--- the one stripe and the number of the LONG column, where a tail has just these
-abbrev pub one_long : Option TopColumn → List Stripe → Option (Stripe × ℕ)
-one_long None stripes = None
-one_long (Some column) [] = None
-one_long (Some column) (stripe ∷ []) = if column.kind == 4 then Some (stripe, column.number) else None
-one_long (Some column) (stripe ∷ another ∷ others) = None
+-- and of one of the footer of the stripe of that number
+abbrev pub footer_stop : ℕ → TailFault → Stop
+footer_stop number fault.TooShort = stop.Fails (footer_failure number fault.TooShort)
+footer_stop number fault.NotOrc = stop.Fails (footer_failure number fault.NotOrc)
+footer_stop number (fault.Compressed kind) = stop.Fails (footer_failure number (fault.Compressed kind))
+footer_stop number (fault.Wire wire) = stop.Fails (footer_failure number (fault.Wire wire))
+footer_stop number fault.OutOfFile = stop.Fails (footer_failure number fault.OutOfFile)
+footer_stop number fault.BadTypes = stop.Fails (footer_failure number fault.BadTypes)
+footer_stop number fault.TooLarge = stop.Fails (footer_failure number fault.TooLarge)
+footer_stop number fault.RootPresent = stop.Fails (footer_failure number fault.RootPresent)
+footer_stop number fault.StreamOutOfStripe = stop.Fails (footer_failure number fault.StreamOutOfStripe)
+footer_stop number (fault.Read failed) = stop.Read failed
+footer_stop number fault.NoMemory = stop.NoMemory
 
 -- where a stream lies; one that isn't there is empty
 abbrev pub stream_span : Option StreamRange → ℕ × ℕ
@@ -46,30 +57,69 @@ direct_span column footer =
     (if has_bytes (first_stream 0 column footer.streams) then None else Some (stream_span (first_stream 1 column footer.streams)))
     else None
 
--- this is where the values lie that a file's bytes have, unless a read failed or memory was refused
-abbrev pub Locates : List ℕ → Found → Result Values Stop → Type 0
-Locates file found (Ok values) = found ≡ values_in values.rows (slice_range file values.at (values.at + values.len))
-Locates file found (Err stop.NotBuilt) = found ≡ not_built
-Locates file found (Err (stop.Read failed)) = Unit {0}
-Locates file found (Err stop.NoMemory) = Unit {0}
-
 -- the answer is that a read failed
 abbrev pub IsReadStop : {Y : Type 0} → Result Y Stop → Type 0
 IsReadStop (Ok y) = ⊥
-IsReadStop (Err stop.NotBuilt) = ⊥
+IsReadStop (Err (stop.Fails outcome)) = ⊥
 IsReadStop (Err (stop.Read failed)) = Unit {0}
 IsReadStop (Err stop.NoMemory) = ⊥
+
+-- the answer isn't a failure
+abbrev pub NeverFails : {Y : Type 0} → Result Y Stop → Type 0
+NeverFails (Ok y) = Unit {0}
+NeverFails (Err (stop.Fails outcome)) = ⊥
+NeverFails (Err (stop.Read failed)) = Unit {0}
+NeverFails (Err stop.NoMemory) = Unit {0}
+
+-- an outcome that what was read decides: no read fault, and where it holds a fault, that has words
+abbrev pub IsDecided : Outcome → Type 0
+IsDecided outcome = IsWorded outcome × (outcome ≢ ReadFault)
+
+-- a failure that is answered was decided
+abbrev pub IsDecidedStop : {Y : Type 0} → Result Y Stop → Type 0
+IsDecidedStop (Ok y) = Unit {0}
+IsDecidedStop (Err (stop.Fails outcome)) = IsDecided outcome
+IsDecidedStop (Err (stop.Read failed)) = Unit {0}
+IsDecidedStop (Err stop.NoMemory) = Unit {0}
+
+-- and so was an outcome
+abbrev pub IsDecidedOutcome : Result Outcome Stop → Type 0
+IsDecidedOutcome (Ok outcome) = IsDecided outcome
+IsDecidedOutcome (Err (stop.Fails outcome)) = IsDecided outcome
+IsDecidedOutcome (Err (stop.Read failed)) = Unit {0}
+IsDecidedOutcome (Err stop.NoMemory) = Unit {0}
+
+-- the answer is this one, unless memory was refused
+abbrev pub Judges : {Y : Type 0} → Result Y Outcome → Result Y Stop → Type 0
+Judges judged (Ok y) = judged ≡ Ok y
+Judges judged (Err (stop.Fails outcome)) = judged ≡ Err outcome
+Judges judged (Err (stop.Read failed)) = ⊥
+Judges judged (Err stop.NoMemory) = Unit {0}
+
+-- this is where the values lie that a stripe has, unless a read failed or memory was refused
+abbrev pub Locates : List ℕ → StripeColumn → Result Values Stop → Type 0
+Locates file column (Ok values) = column ≡ values_in values.rows (slice_range file values.at (values.at + values.len))
+Locates file column (Err (stop.Fails outcome)) = column ≡ fails outcome
+Locates file column (Err (stop.Read failed)) = Unit {0}
+Locates file column (Err stop.NoMemory) = Unit {0}
+
+-- this is the total of the column's values, and their number
+pub record IsTotalOf (column : StripeColumn) (sum : StripeTotal) : Type 0 where
+  pub values : List ℤ
+  pub have : HasValues column values
+  pub count_is : sum.count ≡ length values
+  pub total_is : sum.total ≡ total_of values
+
+-- this is the column's total, or its failure, unless a read failed or memory was refused
+abbrev pub Totals : StripeColumn → Result StripeTotal Stop → Type 0
+Totals column (Ok sum) = IsTotalOf column sum
+Totals column (Err (stop.Fails outcome)) = FailsBy column outcome
+Totals column (Err (stop.Read failed)) = Unit {0}
+Totals column (Err stop.NoMemory) = Unit {0}
 
 -- the outcome is what is found means, unless a read failed or memory was refused
 abbrev pub Sees : Found → Result Outcome Stop → Type 0
 Sees found (Ok outcome) = Means found outcome
-Sees found (Err stop.NotBuilt) = found ≡ not_built
+Sees found (Err (stop.Fails outcome)) = Means found outcome
 Sees found (Err (stop.Read failed)) = Unit {0}
 Sees found (Err stop.NoMemory) = Unit {0}
-
--- the answer isn't that the form isn't built
-abbrev pub NeverNotBuilt : {Y : Type 0} → Result Y Stop → Type 0
-NeverNotBuilt (Ok y) = Unit {0}
-NeverNotBuilt (Err stop.NotBuilt) = ⊥
-NeverNotBuilt (Err (stop.Read failed)) = Unit {0}
-NeverNotBuilt (Err stop.NoMemory) = Unit {0}

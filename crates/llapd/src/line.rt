@@ -1,18 +1,37 @@
 //! The line of a fragment's outcome.
-ghost use Rattle.std.specs.Prelude.{◌≡◌, IfOk};
-ghost use Rattle.llapd.specs.Line.{line, bad_plan_text};
+ghost use Rattle.std.specs.Prelude.{◌≡◌, ◌++◌, ◌∷◌, IfOk, codes};
+ghost use Rattle.std.specs.Fmt.{decimal};
+ghost use Rattle.llapd.specs.declared.line.Outcome.TheVariants.{Compressed, BrokenTail, BrokenFooter};
+ghost use Rattle.llapd.specs.Line.{line, ended, bad_plan_text};
+ghost use Rattle.llapd.specs.Faults.{fault_words as words_of};
 
+use orc_tail::TailFault;
 use outside::{Bytes, Name, NoMemory};
 use std::alloc::{AllocError, Global};
 
 /// What became of a fragment that sums one column.
-#[derive(Clone, Copy, Debug, PartialEq, Eq, Drop)]
+#[derive(Debug, Drop)]
 pub enum Outcome {
     /// The sum of the values that aren't null, or none where there is no such value.
     Sum(Option<i64>),
     /// No file has the name.
     NoFile,
-    /// The file isn't whole, hasn't the column, or has a form that this program doesn't read yet.
+    /// The file is compressed, in the way of this number.
+    Compressed(u64),
+    /// The file's tail is refused, by another fault than its compression.
+    BrokenTail(TailFault),
+    /// The file has no column of this name.
+    NoColumn(Bytes),
+    /// The column of this name holds no numbers that can be summed.
+    WrongKind(Bytes),
+    /// The footer of a stripe is refused.
+    BrokenFooter {
+        /// The stripe's number, from 0 on.
+        stripe: u32,
+        /// Why it is refused.
+        fault: TailFault,
+    },
+    /// The column has a form that this program doesn't read yet.
     NotBuilt,
     /// A read of the file failed.
     ReadFault,
@@ -23,17 +42,28 @@ pub enum Outcome {
 /// The line of a fragment's outcome, whole and with its end.
 ///
 /// Refuses only for want of memory.
-pub fn line_of(alloc: Global, name: &Name, outcome: Outcome) -> Result<Bytes, NoMemory>
-    ensures { IfOk result (λ bytes. bytes ≡ line name.now outcome) }
+pub fn line_of(alloc: Global, name: &Name, outcome: &Outcome) -> Result<Bytes, NoMemory>
+    ensures { IfOk result (λ bytes. bytes ≡ line name.now outcome.now) }
 {
-    let name = name.as_str();
+    let fragment = name.as_str();
     let text = match outcome {
-        Outcome::Sum(Some(total)) => format!(in alloc; "{name} sum {total}\n"),
-        Outcome::Sum(None) => format!(in alloc; "{name} sum null\n"),
-        Outcome::NoFile => format!(in alloc; "{name} failed no file\n"),
-        Outcome::NotBuilt => format!(in alloc; "{name} failed not built\n"),
-        Outcome::ReadFault => format!(in alloc; "{name} failed read fault\n"),
-        Outcome::Overflow => format!(in alloc; "{name} failed overflow\n"),
+        Outcome::Sum(Some(total)) => format!(in alloc; "{fragment} sum {total}\n"),
+        Outcome::Sum(None) => format!(in alloc; "{fragment} sum null\n"),
+        Outcome::NoFile => format!(in alloc; "{fragment} failed no file\n"),
+        Outcome::Compressed(kind) => return compressed_line(alloc, fragment, *kind),
+        Outcome::BrokenTail(fault) => return tail_line(alloc, fragment, *fault),
+        Outcome::NoColumn(column) => {
+            return line_with(alloc, fragment, "failed no column ", column.as_slice());
+        }
+        Outcome::WrongKind(column) => {
+            return line_with(alloc, fragment, "failed wrong kind ", column.as_slice());
+        }
+        Outcome::BrokenFooter { stripe, fault } => {
+            return footer_line(alloc, fragment, *stripe, *fault);
+        }
+        Outcome::NotBuilt => format!(in alloc; "{fragment} failed not built\n"),
+        Outcome::ReadFault => format!(in alloc; "{fragment} failed read fault\n"),
+        Outcome::Overflow => format!(in alloc; "{fragment} failed overflow\n"),
     };
     match text {
         Ok(text) => Ok(Bytes::new(text.into_bytes())),
@@ -41,7 +71,96 @@ pub fn line_of(alloc: Global, name: &Name, outcome: Outcome) -> Result<Bytes, No
     }
 }
 
-/// The line for a plan that isn't one that this program runs, with its end.
+/// The line of a file that is compressed in the way of that number.
+fn compressed_line(alloc: Global, name: &str, kind: u64) -> Result<Bytes, NoMemory>
+    ensures { IfOk result (λ bytes. bytes ≡ line name.now (Compressed kind)) }
+{
+    let number = number_text(alloc, kind)?;
+    line_with(alloc, name, "failed compressed ", number.as_slice())
+}
+
+/// The line of a tail that is refused by that fault.
+fn tail_line(alloc: Global, name: &str, fault: TailFault) -> Result<Bytes, NoMemory>
+    ensures { IfOk result (λ bytes. bytes ≡ line name.now (BrokenTail fault)) }
+{
+    line_with(
+        alloc,
+        name,
+        "failed broken tail ",
+        fault_words(fault).as_bytes(),
+    )
+}
+
+/// The line of a stripe whose footer is refused by that fault.
+fn footer_line(alloc: Global, name: &str, stripe: u32, fault: TailFault) -> Result<Bytes, NoMemory>
+    ensures { IfOk result (λ bytes. bytes ≡ line name.now (BrokenFooter stripe fault)) }
+{
+    let last = footer_text(alloc, stripe, fault_words(fault))?;
+    line_with(alloc, name, "failed broken stripe ", last.as_slice())
+}
+
+/// The decimal numeral of a number.
+fn number_text(alloc: Global, number: u64) -> Result<Bytes, NoMemory>
+    ensures { IfOk result (λ bytes. bytes ≡ decimal number) }
+{
+    match format!(in alloc; "{number}") {
+        Ok(text) => Ok(Bytes::new(text.into_bytes())),
+        Err(_) => Err(NoMemory),
+    }
+}
+
+/// A stripe's number, and the words of a fault of its footer.
+fn footer_text(alloc: Global, stripe: u32, words: &str) -> Result<Bytes, NoMemory>
+    ensures { IfOk result (λ bytes. bytes ≡ decimal stripe ++ codes " footer " ++ words.now) }
+{
+    match format!(in alloc; "{stripe} footer {words}") {
+        Ok(text) => Ok(Bytes::new(text.into_bytes())),
+        Err(_) => Err(NoMemory),
+    }
+}
+
+/// The line of a failure that ends with a text of its own.
+fn line_with(alloc: Global, name: &str, words: &str, last: &[u8]) -> Result<Bytes, NoMemory>
+    ensures { IfOk result (λ bytes. bytes ≡ ended (name.now ++ 32 ∷ (words.now ++ last.now))) }
+{
+    match joined(alloc, name.as_bytes(), words.as_bytes(), last) {
+        Ok(line) => Ok(Bytes::new(line)),
+        Err(_) => Err(NoMemory),
+    }
+}
+
+/// A name, a space, two texts and the byte that ends a line.
+fn joined(alloc: Global, name: &[u8], first: &[u8], second: &[u8]) -> Result<Vec<u8>, AllocError>
+    ensures { IfOk result (λ line. line.items ≡ ended (name.now ++ 32 ∷ (first.now ++ second.now))) }
+{
+    let mut line = Vec::new(alloc);
+    line.extend_from_slice(name)?;
+    line.push(b' ')?;
+    line.extend_from_slice(first)?;
+    line.extend_from_slice(second)?;
+    line.push(b'\n')?;
+    Ok(line)
+}
+
+/// The words of a fault of a tail or of a stripe's footer. One that is no fault of these, or an outcome of its
+/// own, has none.
+fn fault_words(fault: TailFault) -> &'static str
+    ensures { result.now ≡ words_of fault }
+{
+    match fault {
+        TailFault::TooShort => "short",
+        TailFault::NotOrc => "not orc",
+        TailFault::Wire(_) => "wire",
+        TailFault::OutOfFile => "out of file",
+        TailFault::BadTypes => "types",
+        TailFault::TooLarge => "too large",
+        TailFault::RootPresent => "root present",
+        TailFault::StreamOutOfStripe => "stream out of stripe",
+        TailFault::Compressed(_) | TailFault::Read(_) | TailFault::NoMemory => "",
+    }
+}
+
+/// The line for a plan that isn't one that the program runs, with its end.
 pub fn bad_plan_line() -> &'static [u8]
     ensures { result.now ≡ bad_plan_text }
 {

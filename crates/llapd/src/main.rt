@@ -20,6 +20,7 @@ mod tests;
 #[cfg(test)]
 mod told_tests;
 mod total;
+mod wide_sum;
 mod words;
 
 use folder::{FolderError, file_names};

@@ -27,8 +27,8 @@ pub fn written<K: Sink>(out: &mut K, text: &[u8], status: Status) -> Status
 }
 
 /// The status after a line with that outcome.
-fn status_after(outcome: Outcome) -> Status
-    ensures { result ≡ status_of outcome }
+fn status_after(outcome: &Outcome) -> Status
+    ensures { result ≡ status_of outcome.now }
 {
     match outcome {
         Outcome::Sum(_) => Status::Done,
@@ -49,10 +49,10 @@ fn run_plan<W: World, S: Store<W>, K: Sink>(
     let Ok(outcome) = scan(alloc, last, &plan.file, &plan.column) else {
         return Status::NoMemory;
     };
-    let Ok(line) = line_of(alloc, &plan.name, outcome) else {
+    let Ok(line) = line_of(alloc, &plan.name, &outcome) else {
         return Status::NoMemory;
     };
-    written(out, line.as_slice(), status_after(outcome))
+    written(out, line.as_slice(), status_after(&outcome))
 }
 
 /// Runs a plan over the files of a world, and writes each fragment's result.
@@ -62,10 +62,9 @@ fn run_plan<W: World, S: Store<W>, K: Sink>(
 ///
 /// Words that aren't good write the usage line: `Usage`. The plan is then read to its end or to 1,048,577
 /// bytes: `PlanFault` only where its source's faults rose, and then nothing is written. Other plans write
-/// `plan not built`: `BadPlan`. Else the fragment's line is written once its outcome is known: a sum,
-/// `no file` or `overflow` exactly where the files mean it, `not built` exactly where the file isn't whole,
-/// hasn't the column or has a form that isn't read yet, and `read fault` only where the faults of `last`
-/// rose in this call. `Done` after a sum, else `SomeFailed`. `WriteFault` only where the sink's faults rose,
+/// `plan not built`: `BadPlan`. Else the fragment's line is written once its outcome is known: a sum or a
+/// failure exactly where the files mean it, and `read fault` only where the faults of `last` rose in this
+/// call. `Done` after a sum, else `SomeFailed`. `WriteFault` only where the sink's faults rose,
 /// and a front of the text was written. After `NoMemory` nothing was written.
 pub fn llapd<W: World, P: Source, S: Store<W> + Send + Drop, K: Sink, G: Gate + Sync>(
     alloc: Global,

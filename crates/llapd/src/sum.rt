@@ -2,14 +2,22 @@
 ghost use Rattle.std.specs.Prelude.{◌≡◌, ◌<◌, ◌≤◌, ◌+◌, ◌*◌, ◌^◌, ℕ, List, Some, IfOk, IfSome, IfNone, length, pos, neg_ℤ, ◌≤ℤ◌, FitsSigned};
 ghost use Rattle.std.specs.Int.{w128};
 ghost use Rattle.outside.specs.SliceFeed.{rest_of};
-ghost use Rattle.llapd.specs.Total.{IsOutcomeOf, BreaksBefore};
-ghost use Rattle.llapd.specs.Sum.{SumsTo};
+ghost use Rattle.llapd.specs.StripeColumn.{BreaksBefore};
+ghost use Rattle.llapd.specs.Sum.{SumsTo, IsSumOf};
 
-use crate::line::Outcome;
 use crate::total::total_with;
 use orc_rle::IntRuns1;
 use outside::{NoMemory, SliceFeed};
 use std::alloc::Global;
+
+/// The total of a stripe's values.
+#[derive(Clone, Copy, Debug, PartialEq, Eq)]
+pub struct StripeTotal {
+    /// How many values there are.
+    pub count: u64,
+    /// Their total.
+    pub total: i128,
+}
 
 /// How many values are read at once.
 const BATCH: usize = 1024;
@@ -36,22 +44,16 @@ fn total_of_runs(feed: &mut SliceFeed<'_>, rows: u64) -> Option<i128>
     Some(total)
 }
 
-/// The outcome by the stream of a column's values: their total, or none where there is no value.
+/// The total of the values that a stream spells, or none where it doesn't spell so many.
 ///
 /// Refuses only for want of memory.
-pub fn sum_of_stream(alloc: Global, rows: u64, stream: &[u8]) -> Result<Outcome, NoMemory>
-    ensures { IfOk result (λ outcome. IsOutcomeOf rows stream.now outcome) }
+pub fn sum_of_stream(alloc: Global, rows: u64, stream: &[u8]) -> Result<Option<i128>, NoMemory>
+    ensures summed { IfOk result (λ total. IsSumOf rows stream.now total) }
+    ensures fits { IfOk result (λ total. IfSome total (λ number. FitsSigned w128 number)) }
 {
     let Ok(streams) = vec![in alloc; stream] else {
         return Err(NoMemory);
     };
     let mut feed = SliceFeed::new(streams);
-    Ok(match total_of_runs(&mut feed, rows) {
-        None => Outcome::NotBuilt,
-        Some(_) if rows == 0 => Outcome::Sum(None),
-        Some(total) => match i64::try_from(total) {
-            Ok(total) => Outcome::Sum(Some(total)),
-            Err(_) => Outcome::Overflow,
-        },
-    })
+    Ok(total_of_runs(&mut feed, rows))
 }

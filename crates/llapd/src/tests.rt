@@ -55,7 +55,7 @@ fn lines_are_as_written(rt: HostRuntime) -> Result<(), Fail> {
         (Outcome::Overflow, "s failed overflow\n"),
     ];
     for (outcome, text) in cases {
-        let line = line_of(rt.alloc(), &name, outcome)?;
+        let line = line_of(rt.alloc(), &name, &outcome)?;
         assert_eq!(rt; line.as_slice(), text.as_bytes());
     }
     assert_eq!(rt; bad_plan_line(), b"plan not built\n".as_slice());

@@ -82,6 +82,7 @@ fn all_end_by(stripes: &[Stripe], len: u64) -> bool
 #[tactic(auto, using(crate::proofs::Ends::stripes_end), unfolding(crate::specs::Tail::stripes_within))]
 fn stripes_within(len: u64, stripes: &[Stripe]) -> Result<(), TailFault>
     ensures exact { MatchResult result (λ _. within len stripes.now ≡ Ok stripes.now) (λ e. within len stripes.now ≡ Err e) }
+    ensures few { OnOk result (length stripes.now ≤ 1000000) }
     ensures in_file { OnOk result (All (λ stripe. stripe_end stripe ≤ len) stripes.now) }
 {
     if stripes.len() > MOST_STRIPES {
@@ -100,6 +101,7 @@ fn stripes_within(len: u64, stripes: &[Stripe]) -> Result<(), TailFault>
 pub(crate) fn tail_of(alloc: Global, len: u64, bytes: &[u8]) -> Result<Tail, TailFault>
     requires { length bytes.now < 2 ^ 32 }
     ensures exact { Gives (λ tail. tail) result (tail_of_footer len bytes.now) }
+    ensures few { IfOk result (λ tail. length tail.stripes ≤ 1000000) }
     ensures in_file { IfOk result (λ tail. All (λ stripe. stripe_end stripe ≤ len) tail.stripes) }
 {
     let Footer { stripes, types } = read_footer(alloc, bytes)?;

@@ -1,6 +1,6 @@
 //! Reads a file's tail.
 
-ghost use Rattle.std.specs.Prelude.{◌≡◌, ◌<◌, ◌≤◌, ◌+◌, IfOk, OnOk, All};
+ghost use Rattle.std.specs.Prelude.{◌≡◌, ◌<◌, ◌≤◌, ◌+◌, IfOk, OnOk, All, length};
 ghost use Rattle.outside.specs.Files.{IsFile};
 ghost use Rattle.outside.specs.Followed.{Followed};
 ghost use Rattle.orc_tail.specs.Reads.{ending, span_plan, footer_plan, tail_plan};
@@ -46,6 +46,7 @@ fn read_footer<W: World, B: RangeReader<W>>(
     requires len { file.len ≤ 4294967295 }
     requires is_file { IsFile W.files file }
     ensures followed { Followed B.went B.fault_count W.files file ending (footer_plan file span) reader.old reader.new result }
+    ensures few { IfOk result (λ tail. length tail.stripes ≤ 1000000) }
     ensures in_file { IfOk result (λ tail. All (λ stripe. stripe_end stripe ≤ file.len) tail.stripes) }
 {
     let footer = read_range(alloc, reader, file, span.at, span.len)?;
@@ -72,6 +73,7 @@ pub fn read_tail<W: World, B: RangeReader<W>>(
     requires is_file { IsFile W.files file }
     ensures followed { Followed B.went B.fault_count W.files file ending (tail_plan file) reader.old reader.new result }
     ensures len { OnOk result (file.len ≤ 4294967295) }
+    ensures few { IfOk result (λ tail. length tail.stripes ≤ 1000000) }
     ensures in_file { IfOk result (λ tail. All (λ stripe. stripe_end stripe ≤ file.len) tail.stripes) }
 {
     if file.len > GREATEST_LEN {

@@ -10,5 +10,5 @@ returns-in_default-line_of g c = refused refl
 
 pub returns : goal.returns
 returns g c = wrote c.in-Ok.outcome
-    (record { fault = λ e. c.in-Ok.ensures.cause.failed (ap Ok e); meaning = c.in-Ok.ensures.told })
+    (record { worded = c.in-Ok.ensures.worded; fault = λ e. c.in-Ok.ensures.cause.failed (ap Ok e); meaning = c.in-Ok.ensures.told })
     (rw (c.as_slice.ensures, c.in-Ok-line_of.ensures, c.status_after.ensures) at c.written.ensures)
