@@ -125,12 +125,27 @@ fn file_of(alloc: Global, values: &[u8], rows: u8, compression: u8) -> Result<Ve
     Ok(file)
 }
 
-/// The file of 100 rows, with its stripe listed twice.
+/// The file of 100 rows, with its stripe listed twice. The stripes' entries stand at 22 and 34.
 const TWICE: [u8; 80] = [
     79, 82, 67, 97, 0, 7, 10, 6, 8, 1, 16, 1, 24, 3, 18, 2, 8, 0, 18, 2, 8, 0, 26, 10, 8, 3, 16, 0,
     24, 3, 32, 16, 40, 100, 26, 10, 8, 3, 16, 0, 24, 3, 32, 16, 40, 100, 34, 8, 8, 12, 18, 1, 1,
     26, 1, 120, 34, 2, 8, 4, 48, 100, 8, 40, 16, 0, 34, 2, 0, 12, 40, 0, 130, 244, 3, 3, 79, 82,
     67, 17,
+];
+
+/// Two stripes: the greatest number and 1, and then -1.
+const BACK: [u8; 107] = [
+    79, 82, 67, 254, 254, 255, 255, 255, 255, 255, 255, 255, 255, 1, 2, 10, 6, 8, 1, 16, 1, 24, 12,
+    18, 2, 8, 0, 18, 2, 8, 0, 255, 1, 10, 6, 8, 1, 16, 1, 24, 2, 18, 2, 8, 0, 18, 2, 8, 0, 26, 10,
+    8, 3, 16, 0, 24, 12, 32, 16, 40, 2, 26, 10, 8, 31, 16, 0, 24, 2, 32, 16, 40, 1, 34, 8, 8, 12,
+    18, 1, 1, 26, 1, 120, 34, 2, 8, 4, 48, 3, 8, 40, 16, 0, 34, 2, 0, 12, 40, 0, 130, 244, 3, 3,
+    79, 82, 67, 17,
+];
+
+/// A file with no stripe.
+const NO_STRIPE: [u8; 37] = [
+    79, 82, 67, 34, 8, 8, 12, 18, 1, 1, 26, 1, 120, 34, 2, 8, 4, 48, 0, 8, 16, 16, 0, 34, 2, 0, 12,
+    40, 0, 130, 244, 3, 3, 79, 82, 67, 17,
 ];
 
 #[test]
@@ -150,6 +165,11 @@ fn a_call_answers_and_writes_its_line(rt: HostRuntime) -> Result<(), Fail> {
     let whole = first.as_slice();
     let other = Call {
         plan: "s sum x from u.orc",
+        ..sum_of(whole)
+    };
+    let cut = whole.get(..67).ok_or("a shorter length")?;
+    let no_column = Call {
+        plan: "s sum y from t.orc",
         ..sum_of(whole)
     };
     let count = Call {
@@ -184,10 +204,23 @@ fn a_call_answers_and_writes_its_line(rt: HostRuntime) -> Result<(), Fail> {
         (
             sum_of(packed.as_slice()),
             Status::SomeFailed,
-            "s failed not built\n",
+            "s failed compressed 1\n",
         ),
-        (sum_of(&TWICE), Status::SomeFailed, "s failed not built\n"),
+        (sum_of(&TWICE), Status::Done, "s sum -800\n"),
+        (sum_of(&BACK), Status::Done, "s sum 9223372036854775807\n"),
+        (sum_of(&NO_STRIPE), Status::Done, "s sum null\n"),
         (other, Status::SomeFailed, "s failed no file\n"),
+        (no_column, Status::SomeFailed, "s failed no column y\n"),
+        (
+            sum_of(cut),
+            Status::SomeFailed,
+            "s failed broken tail short\n",
+        ),
+        (
+            sum_of(&[0, 0]),
+            Status::SomeFailed,
+            "s failed broken tail not orc\n",
+        ),
         (count, Status::BadPlan, "plan not built\n"),
         (usage, Status::Usage, USAGE),
         (unread, Status::PlanFault, ""),
@@ -210,14 +243,32 @@ fn wanted(letter: u8) -> (Status, &'static str) {
         b'b' => (Status::Done, "s sum -6400\n"),
         b'z' => (Status::Done, "s sum 0\n"),
         b'e' => (Status::Done, "s sum null\n"),
-        _ => (Status::SomeFailed, "s failed not built\n"),
+        _ => (Status::SomeFailed, wanted_failure(letter)),
     }
 }
 
-/// What is wanted of a file of which the byte at that place is 7F, and 0.
-const WITH_7F: &[u8] = b"ssssdb-----------s-------------------------------s------ss-s--------";
+fn wanted_failure(letter: u8) -> &'static str {
+    match letter {
+        b'S' => "s failed broken tail short\n",
+        b'N' => "s failed broken tail not orc\n",
+        b'W' => "s failed broken tail wire\n",
+        b'O' => "s failed broken tail out of file\n",
+        b'T' => "s failed broken tail types\n",
+        b'C' => "s failed compressed 127\n",
+        b'c' => "s failed no column x\n",
+        b'k' => "s failed wrong kind x\n",
+        b'w' => "s failed broken stripe 0 footer wire\n",
+        b'o' => "s failed broken stripe 0 footer stream out of stripe\n",
+        _ => "s failed not built\n",
+    }
+}
 
-const WITH_0: &[u8] = b"sss-sz---------s-s-s-s-----s-----e---------------s---s--ss-s--------";
+/// What is wanted of a file of which the byte at that place is 7F, and 0, and of one that is cut to that length.
+const WITH_7F: &[u8] = b"ssssdbwww-w-wowwwswww-WWWOWOWOWOW-WWWTWWTWWcWWWkWsNONCNNssNsNNNNNNNS";
+
+const WITH_0: &[u8] = b"sss-szw-w-w-w-wswswswsW-WwWsWwW-WeWWWTWWTWWcWkWkWsNTNsNNssNsNNNNNNNN";
+
+const CUT: &[u8] = b"SSSSSNSSNNNSNSNSNNNNNNNSNNNNNNNSNSSNNNNNNNNNSNNNNNSNNNNNNNNNNSSNNSSS";
 
 /// The first place at which the file with that byte doesn't answer what is wanted.
 fn first_wrong(alloc: Global, file: &[u8], byte: u8, table: &[u8]) -> Result<Option<usize>, Fail> {
@@ -234,11 +285,12 @@ fn first_wrong(alloc: Global, file: &[u8], byte: u8, table: &[u8]) -> Result<Opt
     Ok(None)
 }
 
-/// The first length, below the file's, to which it is cut and doesn't answer `not built`.
-fn first_wrong_cut(alloc: Global, file: &[u8]) -> Result<Option<usize>, Fail> {
-    for len in 0..file.len() {
-        let call = sum_of(&file[..len]);
-        if !answers(alloc, &call, Status::SomeFailed, "s failed not built\n")? {
+/// The first length, below the file's, to which it is cut and doesn't answer what is wanted.
+fn first_wrong_cut(alloc: Global, file: &[u8], table: &[u8]) -> Result<Option<usize>, Fail> {
+    for (len, letter) in table.iter().enumerate() {
+        let (status, text) = wanted(*letter);
+        let cut = file.get(..len).ok_or("a shorter length")?;
+        if !answers(alloc, &sum_of(cut), status, text)? {
             return Ok(Some(len));
         }
     }
@@ -252,6 +304,24 @@ fn a_damaged_file_is_what_it_means(rt: HostRuntime) -> Result<(), Fail> {
     assert_eq!(rt; file.len(), 68);
     assert_eq!(rt; first_wrong(alloc, file.as_slice(), 0x7F, WITH_7F)?, None);
     assert_eq!(rt; first_wrong(alloc, file.as_slice(), 0, WITH_0)?, None);
-    assert_eq!(rt; first_wrong_cut(alloc, file.as_slice())?, None);
+    assert_eq!(rt; first_wrong_cut(alloc, file.as_slice(), CUT)?, None);
+    Ok(())
+}
+
+#[test]
+fn the_least_stripe_that_fails_counts(rt: HostRuntime) -> Result<(), Fail> {
+    let alloc = rt.alloc();
+    let cases = [
+        (25, 9, "s failed broken stripe 0 footer wire\n"),
+        (43, 9, "s failed broken stripe 1 footer wire\n"),
+        (45, 101, "s failed not built\n"),
+        (43, 101, "s failed broken tail out of file\n"),
+    ];
+    for (place, byte, text) in cases {
+        let mut file = TWICE;
+        file[place] = byte;
+        let call = sum_of(&file);
+        assert!(rt; answers(alloc, &call, Status::SomeFailed, text)?, "{text}");
+    }
     Ok(())
 }

@@ -3,6 +3,8 @@ use crate::line::{Outcome, bad_plan_line, line_of};
 use crate::plan_bytes::{PlanError, read_all};
 use crate::sum_plan::read_sum_plan;
 use crate::words::{are_good, usage_line};
+use orc_proto::WireFault;
+use orc_tail::TailFault;
 use outside::{Bytes, Failed, MemorySource, Name};
 use std::test::Fail;
 
@@ -50,6 +52,11 @@ fn lines_are_as_written(rt: HostRuntime) -> Result<(), Fail> {
         (Outcome::Sum(Some(i64::MIN)), "s sum -9223372036854775808\n"),
         (Outcome::Sum(None), "s sum null\n"),
         (Outcome::NoFile, "s failed no file\n"),
+        (Outcome::Compressed(2), "s failed compressed 2\n"),
+        (
+            Outcome::NoColumn(Bytes::new(b"y".as_slice().to_vec(rt.alloc())?)),
+            "s failed no column y\n",
+        ),
         (Outcome::NotBuilt, "s failed not built\n"),
         (Outcome::ReadFault, "s failed read fault\n"),
         (Outcome::Overflow, "s failed overflow\n"),
@@ -59,6 +66,31 @@ fn lines_are_as_written(rt: HostRuntime) -> Result<(), Fail> {
         assert_eq!(rt; line.as_slice(), text.as_bytes());
     }
     assert_eq!(rt; bad_plan_line(), b"plan not built\n".as_slice());
+    Ok(())
+}
+
+#[test]
+fn faults_have_their_words(rt: HostRuntime) -> Result<(), Fail> {
+    let name = Name::new(String::from_str(rt.alloc(), "s")?);
+    let cases = [
+        (TailFault::TooShort, "short"),
+        (TailFault::NotOrc, "not orc"),
+        (TailFault::Wire(WireFault::Truncated(0)), "wire"),
+        (TailFault::OutOfFile, "out of file"),
+        (TailFault::BadTypes, "types"),
+        (TailFault::TooLarge, "too large"),
+        (TailFault::RootPresent, "root present"),
+        (TailFault::StreamOutOfStripe, "stream out of stripe"),
+    ];
+    for (fault, words) in cases {
+        let tail = line_of(rt.alloc(), &name, &Outcome::BrokenTail(fault))?;
+        let text = format!(in rt.alloc(); "s failed broken tail {words}\n")?;
+        assert_eq!(rt; tail.as_slice(), text.as_bytes());
+        let broken = Outcome::BrokenFooter { stripe: 12, fault };
+        let footer = line_of(rt.alloc(), &name, &broken)?;
+        let text = format!(in rt.alloc(); "s failed broken stripe 12 footer {words}\n")?;
+        assert_eq!(rt; footer.as_slice(), text.as_bytes());
+    }
     Ok(())
 }
 
