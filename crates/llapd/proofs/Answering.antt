@@ -1,5 +1,5 @@
 -- How the answer of a call follows from what its steps left.
-use Rattle.std.proofs.Common.{◌≡◌, ◌≢◌, ◌⊎◌, true, false, ℕ, ◌+◌, ◌≤◌, List, [], ◌∷◌, ◌++◌, length, take, drop, Option, Some, refl, sym, ◌∙◌, ap, subst, arith, inl, inr, length-append}
+use Rattle.std.proofs.Common.{◌≡◌, ◌⊎◌, true, false, ℕ, ◌+◌, ◌≤◌, List, [], ◌∷◌, ◌++◌, length, Option, Some, sym, ◌∙◌, ap, subst, arith, inl, inr, length-append}
 use Rattle.std.proofs.lemmas.List.{take_all, drop_all, length-take}
 use Rattle.std.specs.Prelude.{codes}
 use Rattle.outside.specs.Told.{Extended}
@@ -11,7 +11,7 @@ use Rattle.llapd.specs.Words.{AreGoodWords, usage_text}
 use Rattle.llapd.specs.SumPlan.{sum_line, IsSumPlan}
 use Rattle.llapd.specs.Line.{line, bad_plan_text}
 use Rattle.llapd.specs.PlanBytes.{GaveFront}
-use Rattle.llapd.specs.Headline.{most_read, HasOutcome, IsReadWhole, status_of, Call, Writes, Answers}
+use Rattle.llapd.specs.Headline.{most_read, IsReadWhole, status_of, Call, Writes, Answers}
 use Rattle.llapd.specs.Headline.Writes.{usage, bad_plan, ran}
 use Rattle.llapd.specs.Steps.{Written, Ran}
 use Rattle.llapd.specs.Steps.Written.{whole, failed}

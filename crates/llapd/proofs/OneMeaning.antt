@@ -1,10 +1,9 @@
 -- What a scan finds means one outcome.
-use Rattle.std.proofs.Common.{◌≡◌, ◌≢◌, ◌⊎◌, ℕ, ◌+◌, ◌≤◌, Bool, true, List, [], ◌∷◌, ◌++◌, length, Option, Some, None, Ok, Err, ℤ, refl, sym, ◌∙◌, ap, subst, inl, inr, arith, append_assoc, append-nil}
+use Rattle.std.proofs.Common.{◌≡◌, ◌⊎◌, ℕ, ◌+◌, true, List, [], ◌∷◌, ◌++◌, length, Some, None, Ok, ℤ, refl, sym, ◌∙◌, ap, subst, inl, inr, arith, append_assoc}
 use Rattle.std.specs.Prelude.{Result, FitsSigned}
 use Rattle.std.specs.Int.{w64}
 use Rattle.outside.specs.declared.run_fault.RunFault.{RunFault}
-use Rattle.outside.specs.Reading.{Reader}
-use Rattle.outside.specs.Runs.{Joined, none, one, Spells, Breaks, IsReaderOf}
+use Rattle.outside.specs.Runs.{Joined, none, one, Spells}
 use Rattle.outside.proofs.Runs.{Fewest-joined, Spells-not-breaks}
 use Rattle.orc_rle.specs.IntRun1.{IntRun1, int_run1}
 use Rattle.orc_rle.proofs.RunReader.{int_run1_reads}
@@ -12,7 +11,7 @@ use Rattle.llapd.specs.declared.line.Outcome.{Outcome}
 use Rattle.llapd.specs.declared.line.Outcome.TheVariants.{Sum, NoFile, Compressed, BrokenTail, NoColumn, WrongKind, BrokenFooter, NotBuilt, ReadFault, Overflow}
 use Rattle.orc_tail.specs.declared.stripe.Stripe.{Stripe}
 use Rattle.llapd.specs.Total.{total_of, IsTotal}
-use Rattle.llapd.specs.StripeColumn.{StripeColumn, fails, values_in, stripe_column, Spelled, BreaksBefore, HasValues, FailsBy}
+use Rattle.llapd.specs.StripeColumn.{StripeColumn, fails, values_in, stripe_column, HasValues, FailsBy}
 use Rattle.llapd.specs.Stripes.{HaveValues, FirstFails, IsOutcomeOf, broken, summed}
 use Rattle.llapd.specs.Stripes.HaveValues.{none as have_none, next as have_next}
 use Rattle.llapd.specs.Stripes.FirstFails.{here, later}

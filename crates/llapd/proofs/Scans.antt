@@ -1,5 +1,5 @@
 -- What the steps of a scan find, by what the file's bytes make of its tail, its stripe's footer and its streams.
-use Rattle.std.specs.Prelude.{All, Result, Ok, Err, find, slice_get, slice_range, ◌==◌, ◌&&◌, if◌then◌else◌}
+use Rattle.std.specs.Prelude.{Result, Ok, Err, find, slice_get, slice_range, ◌==◌, ◌&&◌, if◌then◌else◌}
 use Rattle.std.proofs.Common.{◌≡◌, ℕ, ◌+◌, ◌≤◌, Bool, true, false, List, [], ◌∷◌, Option, Some, None, refl, sym, ◌∙◌, ap, subst, arith}
 use Rattle.outside.specs.declared.file_ref.FileRef.{FileRef}
 use Rattle.outside.specs.Reads.{ReadEntry}
@@ -7,7 +7,6 @@ use Rattle.outside.specs.Followed.{Fits}
 use Rattle.orc_tail.specs.declared.fault.TailFault.{TailFault}
 use Rattle.orc_tail.specs.declared.fault.TailFault.TheVariants as fault
 use Rattle.orc_tail.specs.declared.stripe.Stripe.{Stripe}
-use Rattle.orc_tail.specs.declared.columns.TopColumn.{TopColumn}
 use Rattle.orc_tail.specs.declared.stream.StreamRange.{StreamRange}
 use Rattle.orc_tail.specs.declared.stripe_footer.StripeFooter.{StripeFooter}
 use Rattle.orc_tail.specs.declared.tail.Tail.{Tail}
@@ -18,7 +17,7 @@ use Rattle.llapd.specs.declared.stop.Stop.{Stop}
 use Rattle.llapd.specs.declared.stop.Stop.TheVariants as stop
 use Rattle.llapd.specs.declared.line.Outcome.{Outcome}
 use Rattle.llapd.specs.declared.line.Outcome.TheVariants.{NotBuilt}
-use Rattle.llapd.specs.StripeColumn.{StripeColumn, fails, values_in, stream_bytes, is_direct, column_in_streams, column_by_footer, stripe_column, footer_failure}
+use Rattle.llapd.specs.StripeColumn.{fails, values_in, stream_bytes, is_direct, column_in_streams, column_by_footer, stripe_column, footer_failure}
 use Rattle.llapd.specs.Meaning.{Found, found_in, found_tail, found_column, column_in, column_number, tail_failure, Means}
 use Rattle.llapd.specs.Meaning.{fails as found_fails}
 use Rattle.llapd.specs.Scan.{stop_of, footer_stop, stream_span, direct_span, Locates, Judges, Sees}

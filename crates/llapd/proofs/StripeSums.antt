@@ -1,6 +1,6 @@
 -- How the sum of stripes goes on, and what a scan sees where it ends.
 use Rattle.std.proofs.Common.{◌≡◌, ◌≢◌, ℕ, ◌+◌, ◌≤◌, ◌<◌, Bool, true, false, List, [], ◌∷◌, ◌++◌, length, take, drop, get_or, ℤ, pos, ◌+ℤ◌, fold, nat_lt, refl, sym, ◌∙◌, ap, subst, arith, length-append}
-use Rattle.std.specs.Prelude.{◌||◌, Result, Ok, Err}
+use Rattle.std.specs.Prelude.{◌||◌, Ok, Err}
 use Rattle.std.proofs.lemmas.List.{take_more, drop_more, take-append-drop, length-take-le, take_all}
 use Rattle.std.proofs.lemmas.List.Sums.{fold-append}
 use Rattle.std.proofs.lemmas.Int.{ints}
@@ -13,7 +13,7 @@ use Rattle.llapd.specs.declared.sum.StripeTotal.{StripeTotal}
 use Rattle.llapd.specs.declared.wide_sum.WideSum.{WideSum}
 use Rattle.llapd.specs.Total.{total_of, IsTotal}
 use Rattle.llapd.specs.StripeColumn.{stripe_column, HasValues, FailsBy}
-use Rattle.llapd.specs.Stripes.{HaveValues, FirstFails, IsOutcomeOf, broken, summed}
+use Rattle.llapd.specs.Stripes.{HaveValues, FirstFails, broken, summed}
 use Rattle.llapd.specs.Stripes.HaveValues.{none}
 use Rattle.llapd.specs.Sum.{wide_total, IsWideSum, SumOfStripes}
 use Rattle.llapd.specs.Meaning.{column_in}

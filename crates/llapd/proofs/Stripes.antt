@@ -1,11 +1,9 @@
 -- How the stripes before the one that is read next are those of a scan so far.
-use Rattle.std.proofs.Common.{◌≡◌, ◌≢◌, ℕ, ◌+◌, ◌≤◌, ◌<◌, Bool, true, false, List, [], ◌∷◌, ◌++◌, length, take, drop, get_or, ℤ, pos, ◌+ℤ◌, fold, refl, sym, ◌∙◌, ap, subst, arith, append_assoc, append-nil}
-use Rattle.std.specs.Prelude.{slice_get, Option, Some}
-use Rattle.std.proofs.lemmas.List.Sums.{fold-append}
+use Rattle.std.proofs.Common.{◌≡◌, ℕ, ◌+◌, List, [], ◌∷◌, ◌++◌, length, ℤ, sym, subst, arith, append_assoc, append-nil}
 use Rattle.orc_tail.specs.declared.stripe.Stripe.{Stripe}
 use Rattle.llapd.specs.declared.line.Outcome.{Outcome}
-use Rattle.llapd.specs.StripeColumn.{StripeColumn, stripe_column, HasValues, FailsBy}
-use Rattle.llapd.specs.Stripes.{HaveValues, FirstFails, IsOutcomeOf}
+use Rattle.llapd.specs.StripeColumn.{stripe_column, HasValues, FailsBy}
+use Rattle.llapd.specs.Stripes.{HaveValues, FirstFails}
 use Rattle.llapd.specs.Stripes.HaveValues.{none, next}
 use Rattle.llapd.specs.Stripes.FirstFails.{here, later}
 

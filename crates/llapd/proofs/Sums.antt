@@ -1,12 +1,12 @@
 -- How the total of a stream's values is found in batches.
 use Rattle.std.specs.Prelude.{Result, Ok, Err, IsErrAnd, is_err}
 use Rattle.std.specs.Result.{result_err}
-use Rattle.std.proofs.Common.{◌≡◌, ◌≢◌, ℕ, ◌+◌, ◌≤◌, ◌<◌, Bool, true, false, List, [], ◌∷◌, ◌++◌, length, Option, Some, None, ℤ, pos, ◌+ℤ◌, fold, refl, sym, ◌∙◌, ap, subst, arith, length-append, inl, inr}
+use Rattle.std.proofs.Common.{◌≡◌, ℕ, ◌+◌, ◌≤◌, true, false, List, [], ◌++◌, length, Option, Some, None, ℤ, pos, ◌+ℤ◌, fold, refl, sym, ◌∙◌, ap, arith, length-append, inl, inr}
 use Rattle.outside.specs.declared.run_fault.RunFault.{RunFault}
 use Rattle.outside.specs.declared.run_fault.RunFault.TheVariants.{StreamEnds, LongVarint, PatchOutOfRun, PatchTooWide, Read}
-use Rattle.outside.specs.Cause.{Cause, Rose, last_count}
+use Rattle.outside.specs.Cause.{Cause, Rose}
 use Rattle.outside.specs.Reading.{IsReadFault, placed}
-use Rattle.outside.specs.Runs.{Spells, Between, Breaks, Fewest}
+use Rattle.outside.specs.Runs.{Breaks}
 use Rattle.outside.specs.Runs.Fewest.{no_run}
 use Rattle.outside.specs.Filling.{Continues, BreaksWith}
 use Rattle.orc_rle.specs.IntRun1.{IntRun1, int_run1}

@@ -2,7 +2,6 @@
 use Rattle.std.specs.Prelude.{◌≡◌, ◌≢◌, ℕ, ℤ, ◌+◌, List, length, slice_range, slice_get, Option, Some, None, Result, Ok, Err, if◌then◌else◌}
 use Rattle.orc_tail.specs.declared.fault.TailFault.{TailFault}
 use Rattle.orc_tail.specs.declared.fault.TailFault.TheVariants as fault
-use Rattle.orc_tail.specs.declared.stripe.Stripe.{Stripe}
 use Rattle.orc_tail.specs.declared.stripe_footer.StripeFooter.{StripeFooter}
 use Rattle.orc_tail.specs.declared.stream.StreamRange.{StreamRange}
 use Rattle.orc_tail.specs.StripeFooter.{first_stream, has_bytes}

@@ -1,5 +1,5 @@
 -- The total of a column's values, on the way to a scan's outcome. Source: this project's own.
-use Rattle.std.specs.Prelude.{◌≡◌, ◌≢◌, ◌≤◌, ◌^◌, ℕ, Bool, true, false, List, [], length, take, ℤ, pos, ◌+ℤ◌, ◌*ℤ◌, Option, Some, None}
+use Rattle.std.specs.Prelude.{◌≡◌, ◌≢◌, ◌^◌, ℕ, true, false, List, [], length, ℤ, pos, ◌+ℤ◌, ◌*ℤ◌, Option, Some, None}
 use Rattle.outside.specs.Runs.{Spells, Between}
 use Rattle.orc_rle.specs.IntRun1.{IntRun1}
 use Rattle.orc_tail.specs.declared.stripe.Stripe.{Stripe}

@@ -143,6 +143,84 @@ fn each_condition_refuses_a_tail(rt: HostRuntime) -> Result<(), Fail> {
     Ok(())
 }
 
+/// The number and the kind of a file's column `x`.
+fn column_x(alloc: Global, bytes: &[u8]) -> Option<(u32, u64)> {
+    let mut reader = disk_of(alloc, bytes);
+    let tail = read_tail(alloc, &mut reader, file_of(bytes)).ok()?;
+    let column = column_named(&tail, "x")?;
+    Some((column.number, column.kind))
+}
+
+#[test]
+fn fields_are_read_as_the_wire_format_says(rt: HostRuntime) -> Result<(), Fail> {
+    let table: [(&[u8], Option<(u32, u64)>); 7] = [
+        // unknown fields of each wire type are skipped
+        (
+            b"\x48\x01\x49\x31\x32\x33\x34\x35\x36\x37\x38\x4A\x02\x61\x62\x4D\x31\x32\x33\x34\x22\x08\x08\x0C\x12\x01\x01\x1A\x01\x78\x22\x02\x08\x04\x08\x22\x82\xF4\x03\x03\x4F\x52\x43\x09",
+            Some((1, 4)),
+        ),
+        // a known field with another wire type is skipped as unknown
+        (
+            b"\x18\x01\x20\x07\x22\x08\x08\x0C\x12\x01\x01\x1A\x01\x78\x22\x07\x0A\x01\x5A\x08\x04\x18\x05\x08\x17\x82\xF4\x03\x03\x4F\x52\x43\x09",
+            Some((1, 4)),
+        ),
+        // the last value of a singular field counts
+        (
+            b"\x22\x0A\x08\x03\x08\x0C\x12\x01\x01\x1A\x01\x78\x22\x04\x08\x07\x08\x04\x08\x12\x82\xF4\x03\x03\x4F\x52\x43\x09",
+            Some((1, 4)),
+        ),
+        // repeated numbers are taken unpacked
+        (
+            b"\x22\x0C\x08\x0C\x10\x01\x10\x02\x1A\x01\x79\x1A\x01\x78\x22\x02\x08\x03\x22\x02\x08\x04\x08\x16\x82\xF4\x03\x03\x4F\x52\x43\x09",
+            Some((2, 4)),
+        ),
+        // repeated numbers are taken packed and unpacked together
+        (
+            b"\x22\x11\x08\x0C\x12\x02\x01\x02\x10\x03\x1A\x01\x79\x1A\x01\x7A\x1A\x01\x78\x22\x02\x08\x03\x22\x02\x08\x02\x22\x02\x08\x04\x08\x1F\x82\xF4\x03\x03\x4F\x52\x43\x09",
+            Some((3, 4)),
+        ),
+        // a kind above 32 bits is not cut
+        (
+            b"\x22\x08\x08\x0C\x12\x01\x01\x1A\x01\x78\x22\x06\x08\x84\x80\x80\x80\x10\x08\x12\x82\xF4\x03\x03\x4F\x52\x43\x09",
+            Some((1, 4_294_967_300)),
+        ),
+        // a subtype above 32 bits is not cut
+        (
+            b"\x22\x0B\x08\x0C\x10\x81\x80\x80\x80\x10\x1A\x01\x78\x22\x02\x08\x04\x08\x11\x82\xF4\x03\x03\x4F\x52\x43\x09",
+            None,
+        ),
+    ];
+    for (bytes, column) in table {
+        assert_eq!(rt; column_x(rt.alloc(), bytes), column, "{bytes:?}");
+    }
+    Ok(())
+}
+
+/// A file of that many empty stripes, whose footer's length is spelled so.
+fn file_of_stripes(alloc: Global, count: u32, len: [u8; 3]) -> Result<Vec<u8>, Fail> {
+    let mut file = Vec::new(alloc);
+    for _ in 0..count {
+        file.extend_from_slice(b"\x1A\x00")?;
+    }
+    file.extend_from_slice(b"\x22\x02\x08\x0C\x08")?;
+    file.extend_from_slice(&len)?;
+    file.extend_from_slice(b"\x82\xF4\x03\x03ORC\x0B")?;
+    Ok(file)
+}
+
+#[test]
+fn a_million_stripes_are_the_most(rt: HostRuntime) -> Result<(), Fail> {
+    let alloc = rt.alloc();
+    let most = file_of_stripes(alloc, 1_000_000, [0x84, 0x89, 0x7A])?;
+    assert_eq!(rt; tail_fault(alloc, most.as_slice()), None);
+    let too_many = file_of_stripes(alloc, 1_000_001, [0x86, 0x89, 0x7A])?;
+    assert_eq!(rt;
+        tail_fault(alloc, too_many.as_slice()),
+        Some(TailFault::TooLarge)
+    );
+    Ok(())
+}
+
 #[test]
 fn each_condition_refuses_a_stripe_footer(rt: HostRuntime) -> Result<(), Fail> {
     let alloc = rt.alloc();

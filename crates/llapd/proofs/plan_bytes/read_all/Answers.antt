@@ -1,4 +1,4 @@
-use Rattle.std.proofs.Common.{◌≡◌, ◌≤◌, ◌+◌, ◌∙◌, sym, ap, arith, ℕ, length, vec_len, length-take}
+use Rattle.std.proofs.Common.{◌≡◌, arith, ℕ, vec_len, length-take}
 use Rattle.llapd.specs.PlanBytes.{GaveFront}
 use Rattle.llapd.proofs.PlanBytes.{read_next, read_to_end}
 use Rattle.llapd.proofs.plan_bytes.read_all.Goals as goal

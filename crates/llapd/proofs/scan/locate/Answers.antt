@@ -1,6 +1,5 @@
-use Rattle.std.proofs.Common.{◌≡◌, ℕ, ◌+◌, ◌≤◌, List, Some, None, Ok, Err, arith, refl, sym, ◌∙◌, ap, subst}
+use Rattle.std.proofs.Common.{Err, arith, sym, ◌∙◌, subst}
 use Rattle.orc_tail.specs.StripeFooter.{footer_at}
-use Rattle.orc_tail.specs.Tail.{stripe_end}
 use Rattle.llapd.specs.declared.stop.Stop.{Stop}
 use Rattle.llapd.specs.StripeColumn.{stripe_column}
 use Rattle.llapd.specs.Scan.{Locates}

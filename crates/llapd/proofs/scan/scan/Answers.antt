@@ -1,7 +1,5 @@
-use Rattle.std.proofs.Common.{◌≡◌, List, ℕ, Option, Some, Ok, sym, ◌∙◌, ap, subst, arith}
-use Rattle.outside.specs.declared.file_ref.FileRef.{FileRef}
+use Rattle.std.proofs.Common.{◌≡◌, List, ℕ, Option, Some, sym, ◌∙◌, ap, subst}
 use Rattle.outside.specs.Files.{Files, file_named, HasBytes}
-use Rattle.llapd.specs.declared.line.Outcome.{Outcome}
 use Rattle.llapd.specs.Meaning.{Found, found_in, Means}
 use Rattle.llapd.proofs.Found.{found_has_bytes, found_is_file, found_there}
 use Rattle.llapd.proofs.scan.scan.Goals as goal

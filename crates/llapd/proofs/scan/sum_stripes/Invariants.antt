@@ -1,4 +1,4 @@
-use Rattle.std.proofs.Common.{◌≡◌, ◌≤◌, ℕ, ◌+◌, List, take, pos, neg_ℤ, ◌≤ℤ◌}
+use Rattle.std.proofs.Common.{◌≡◌, ◌≤◌, ℕ, List, take, pos, neg_ℤ, ◌≤ℤ◌}
 use Rattle.outside.specs.Files.{HasBytes}
 use Rattle.outside.specs.Reads.{ReadEntry}
 use Rattle.llapd.specs.Sum.{SumOfStripes}

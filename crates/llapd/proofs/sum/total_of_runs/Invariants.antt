@@ -1,4 +1,4 @@
-use Rattle.std.proofs.Common.{◌≡◌, ℕ, ◌+◌, ◌*◌, ◌-◌, ◌^◌, ◌≤◌, List, Some, None, true, pos, neg_ℤ, ◌≤ℤ◌}
+use Rattle.std.proofs.Common.{◌≡◌, ℕ, ◌*◌, ◌-◌, ◌^◌, ◌≤◌, List, Some, None, true, pos, neg_ℤ, ◌≤ℤ◌}
 use Rattle.outside.specs.SliceFeed.{rest_of}
 use Rattle.llapd.specs.Sum.{SummedSoFar}
 use Rattle.llapd.proofs.sum.total_of_runs.Given as goal
