@@ -1,15 +1,5 @@
--- A part of an array, as what is left of it.
-use Rattle.std.proofs.Common.{◌≡◌, ℕ, ◌+◌, ◌-◌, ◌<◌, ◌≤◌, List, [], ◌∷◌, ◌++◌, length, take, drop, ap, ◌∙◌, arith}
-use Rattle.std.proofs.lemmas.List.{drop-take, drop-drop, take_at}
-
-pub left_after : {V : Type 0} (values : List V) (from to count : ℕ) → from + count ≤ to → drop count (take (to - from) (drop from values)) ≡ take (to - (from + count)) (drop (from + count) values)
-left_after {V} values from to count h =
-    let k : to - from ≡ count + (to - (from + count)) = omega arith in
-    ap (λ (n : ℕ). drop count (take n (drop from values))) k ∙ drop-take count (to - (from + count)) (drop from values) ∙ ap (λ (l : List V). take (to - (from + count)) l) (drop-drop count from values)
-
--- a front that was written is the first part of the whole
-pub front_part : {V : Type 0} (front back : List V) (count : ℕ) → length front ≡ count → take (count - 0) (front ++ back) ≡ front
-front_part front back count is = let k : count - 0 ≡ count = omega arith in rw k (take_at front back count is)
+-- What is given of a list.
+use Rattle.std.proofs.Common.{◌≡◌, ℕ, ◌<◌, List, [], ◌∷◌, ◌++◌, length, ap, ◌∙◌, arith}
 
 -- what is given is some of what is held, where there is room
 pub some_given : {V : Type 0} (held more rest : List V) (room : ℕ) → held ≡ more ++ rest → 0 < length held → (length more < room → rest ≡ []) → 0 < room → 0 < length more

@@ -1,8 +1,8 @@
 -- Masks of so many low bits.
-use Rattle.std.proofs.Common.{◌≡◌, ℕ, ◌-◌, ◌*◌, ◌%◌, ◌^◌, ◌+◌, ◌<◌, ◌≤◌, ap, ◌∙◌, arith}
+use Rattle.std.proofs.Common.{◌≡◌, ℕ, ◌-◌, ◌*◌, ◌%◌, ◌^◌, ◌+◌, ◌<◌, ap, ◌∙◌}
 use Rattle.std.specs.Prelude.{bit_and}
-use Rattle.std.proofs.lemmas.Nat.{and_mask, one_shl, pow_pos, mod_below}
-use Rattle.std.proofs.Math.Nat.{add-mod-mod, pow-le-pow_right}
+use Rattle.std.proofs.lemmas.Nat.{and_mask, one_shl}
+use Rattle.std.proofs.Math.Nat.{add-mod-mod}
 
 pub masked : (n k w : ℕ) → k < w → bit_and n (1 * 2 ^ k % 2 ^ w - 1) ≡ n % 2 ^ k
 masked n k w h = ap (λ (m : ℕ). bit_and n (m - 1)) (one_shl k w h) ∙ and_mask n k
@@ -10,9 +10,3 @@ masked n k w h = ap (λ (m : ℕ). bit_and n (m - 1)) (one_shl k w h) ∙ and_ma
 pub patch_above : (width patch value : ℕ) → width < 64 → (bit_and value (1 * 2 ^ width % 2 ^ 64 - 1) + patch * 2 ^ width % 2 ^ 64) % 2 ^ 64 ≡ (value % 2 ^ width + patch * 2 ^ width) % 2 ^ 64
 patch_above width patch value h =
     ap (λ (n : ℕ). (n + patch * 2 ^ width % 2 ^ 64) % 2 ^ 64) (masked value width 64 h) ∙ add-mod-mod (value % 2 ^ width) (patch * 2 ^ width) (2 ^ 64)
-
--- so many bits, of a number of bits
-pub masked_below : (n k : ℕ) → k ≤ 8 → n % 2 ^ k < 256
-masked_below n k h =
-    let p : 2 ^ k ≤ 2 ^ 8 = pow-le-pow_right (omega arith) h in
-    omega (arith, mod_below n (2 ^ k) (pow_pos k))

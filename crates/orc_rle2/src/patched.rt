@@ -10,7 +10,7 @@ use crate::packed::{number_in, take_packed};
 use crate::patches::{Shape, patch};
 use crate::sums::{add_base, sign_magnitude};
 use crate::widths::{least_width, width_of};
-use outside::{Feed, RunFault, take_byte, take_exactly};
+use outside::{Feed, RunFault, take_exactly};
 
 /// Reads what follows the length of a patched run into `into`, which has room for just its values.
 pub fn read_patched<F: Feed>(
@@ -23,8 +23,9 @@ pub fn read_patched<F: Feed>(
     requires most { length into.old ≤ 512 }
     ensures { Reads F.rest F.fed F.fault_count stream (patched_body width (length into.old)) feed.old feed.new (placed into.new result) }
 {
-    let third = take_byte(feed, stream)?;
-    let fourth = take_byte(feed, stream)?;
+    let mut header = [0; 2];
+    take_exactly(feed, stream, &mut header)?;
+    let [third, fourth] = header;
     let shape = Shape {
         values: width,
         gaps: u32::from(fourth / 32 + 1),

@@ -13,7 +13,7 @@ use crate::patched::read_patched;
 use crate::sums::add_steps;
 use crate::widths::width_of;
 use orc_integers::{Held, bits_of, write_copies, write_ramp};
-use outside::{Feed, RunFault, take_exactly, take_varint};
+use outside::{Feed, RunFault, take_exactly, take_varints};
 
 /// Reads a run, straight into `out` where that has room for it, and else into `held`, of which it gives what
 /// there is room for. Answers how many values were given.
@@ -113,8 +113,9 @@ fn read_delta<F: Feed>(
     requires most { length into.old ≤ 512 }
     ensures { Reads F.rest F.fed F.fault_count stream (delta_body signed code (length into.old)) feed.old feed.new (placed into.new result) }
 {
-    let start = take_varint(feed, stream)?;
-    let step = take_varint(feed, stream)?;
+    let mut numbers = [0; 2];
+    take_varints(feed, stream, &mut numbers)?;
+    let [start, step] = numbers;
     let base = bits_of(signed, start);
     let delta = bits_of(true, step);
     if code == 0 {

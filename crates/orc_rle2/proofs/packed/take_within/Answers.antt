@@ -1,4 +1,4 @@
-use Rattle.std.proofs.Common.{◌≡◌, ◌∙◌, ℕ, ◌*◌, ◌≤◌, ◌++◌, Bool, List, length, map, sym, ap, subst, arith}
+use Rattle.std.proofs.Common.{◌≡◌, ◌∙◌, ℕ, ◌*◌, ◌≤◌, Bool, List, length, map, sym, ap, subst, arith}
 use Rattle.outside.specs.Reading.{exactly}
 use Rattle.outside.proofs.Reading.{Reads-map}
 use Rattle.orc_integers.specs.Integers.{integer}
