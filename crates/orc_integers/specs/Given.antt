@@ -4,9 +4,9 @@
 use Rattle.std.specs.Prelude.{◌≡◌, ℕ, ◌<◌, ◌≤◌, List, [], ◌++◌, take, Result, Ok, Err}
 
 -- the values of a run that a call read, where it answered how many of them it gave
-abbrev pub shared_out : {V E : Type 0} → List V → List V → Result ℕ E → Result (List V) E
-shared_out out held (Ok count) = Ok (take count out ++ held)
-shared_out out held (Err e) = Err e
+abbrev pub given_then_held : {V E : Type 0} → List V → List V → Result ℕ E → Result (List V) E
+given_then_held out held (Ok count) = Ok (take count out ++ held)
+given_then_held out held (Err e) = Err e
 
 -- At least one value was given, none past the room, and none is held unless the room is full.
 pub record GivesSome {V : Type 0} (room count : ℕ) (held : List V) : Type 0 where

@@ -9,9 +9,9 @@ mod held_bits;
 mod held_bytes;
 mod int_runs1;
 pub mod laws;
-mod number;
 mod open_byte;
 mod run1;
+mod signed_byte;
 
 pub use bits::Bits;
 pub use byte_runs::ByteRuns;

@@ -1,10 +1,10 @@
 //! One run of version 1, read from a feed.
 ghost use Rattle.std.specs.Prelude.{◌≡◌, ◌≤◌, ◌<◌, [], length, OnOk};
 ghost use Rattle.outside.specs.Reading.{Reads, placed};
-ghost use Rattle.orc_integers.specs.Given.{shared_out, GivesSomeIfOk};
+ghost use Rattle.orc_integers.specs.Given.{given_then_held, GivesSomeIfOk};
 ghost use Rattle.orc_rle.specs.IntRun1.{int_run1, literal_run, repeated_run, run_after, run_len};
 
-use crate::number::widened;
+use crate::signed_byte::widened;
 use orc_integers::{Held, bits_of, write_integers, write_ramp};
 use outside::{Feed, RunFault, take_byte, take_varint, take_varints};
 
@@ -19,7 +19,7 @@ pub fn give_run<F: Feed>(
 ) -> Result<usize, RunFault>
     requires none { held.old ≡ [] }
     requires asked { 0 < length out.old }
-    ensures reads { Reads F.rest F.fed F.fault_count stream (int_run1 signed) feed.old feed.new (shared_out out.new held.new result) }
+    ensures reads { Reads F.rest F.fed F.fault_count stream (int_run1 signed) feed.old feed.new (given_then_held out.new held.new result) }
     ensures gives { GivesSomeIfOk (length out.old) held.new result }
 {
     let control = take_byte(feed, stream)?;

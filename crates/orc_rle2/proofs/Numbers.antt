@@ -1,6 +1,6 @@
 -- Big endian numbers, and the bits of values inside them.
 use Rattle.std.proofs.Common.{◌≡◌, ℕ, zero, suc, ◌+◌, ◌-◌, ◌*◌, ◌/◌, ◌%◌, ◌^◌, ◌<◌, ◌≤◌, List, [], ◌∷◌, ◌++◌, length, take, drop, replicate, get_or, refl, sym, ap, ◌∙◌, arith, inl, inr, length-append, length-drop}
-use Rattle.std.proofs.Math.Nat.{add-mul-div_right, add-mul-mod_self_right, mul-le-mul_left}
+use Rattle.std.proofs.Math.Nat.{add-mul-div_right, add-mul-mod_self_right, mul-le-mul_left, pow-le-pow_right}
 use Rattle.std.proofs.lemmas.Nat.{pow-add, pow_pos, shr-shr}
 use Rattle.std.proofs.lemmas.List.{take-append-drop, length-take-le}
 use Rattle.std.proofs.lemmas.Bool.{cases_lt}
@@ -88,6 +88,12 @@ pub one_byte_below : (number byte count : ℕ) → number < 2 ^ (8 * count) → 
 one_byte_below number byte count h k =
     let e : 8 * (count + 1) ≡ 8 + 8 * count = omega arith in
     let p : 2 ^ (8 * (count + 1)) ≡ 256 * 2 ^ (8 * count) = rw e (pow-add 2 8 (8 * count)) in
+    omega arith
+
+pub seven_bytes : (number count : ℕ) → number < 2 ^ (8 * count) → count < 8 → number < 2 ^ 56
+seven_bytes number count h k =
+    let q : 8 * count ≤ 56 = omega arith in
+    let p : 2 ^ (8 * count) ≤ 2 ^ 56 = pow-le-pow_right (omega arith) q in
     omega arith
 
 -- ---- parts of eight bytes

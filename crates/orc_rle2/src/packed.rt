@@ -13,26 +13,17 @@ use outside::{Feed, RunFault, take_exactly};
 /// So many values or fewer are taken with a small buffer, which has room for them at any width.
 const FEW: usize = 32;
 
-/// The number in a few bytes, big endian.
-fn number_of(bytes: &[u8]) -> u128
-    requires { length bytes.now ≤ 9 }
-    ensures value { result ≡ number_of bytes.now }
-    ensures below { result < 2 ^ (8 * length bytes.now) }
-{
-    let mut number: u128 = 0;
-    for byte in bytes {
-        number = 256 * number + u128::from(*byte);
-    }
-    number
-}
-
-/// The same of at most eight bytes.
+/// The number in at most eight bytes, big endian.
 pub fn number_in(bytes: &[u8]) -> u64
     requires { length bytes.now ≤ 8 }
     ensures value { result ≡ number_of bytes.now }
     ensures below { result < 2 ^ (8 * length bytes.now) }
 {
-    number_of(bytes) as u64
+    let mut number = 0;
+    for byte in bytes {
+        number = 256 * number + u64::from(*byte);
+    }
+    number
 }
 
 /// The number in the eight bytes from a place on, big endian.

@@ -2,7 +2,7 @@
 ghost use Rattle.std.specs.Prelude.{◌≡◌, ◌-◌, ◌≤◌, ◌<◌, [], length, OnOk};
 ghost use Rattle.std.specs.Int.{cast_signed, w64};
 ghost use Rattle.outside.specs.Reading.{Reads, mapped, placed};
-ghost use Rattle.orc_integers.specs.Given.{shared_out, GivesSomeIfOk};
+ghost use Rattle.orc_integers.specs.Given.{given_then_held, GivesSomeIfOk};
 ghost use Rattle.orc_rle2.specs.Header.{run_body, repeat_body, count_of, IsBounded};
 ghost use Rattle.orc_rle2.specs.IntRun2.{int_run2, delta_body, varied, packed};
 ghost use Rattle.orc_rle2.specs.Widths.{IsWidth};
@@ -26,7 +26,7 @@ pub fn give_run<F: Feed>(
 ) -> Result<usize, RunFault>
     requires none { held.old ≡ [] }
     requires asked { 0 < length out.old }
-    ensures reads { Reads F.rest F.fed F.fault_count stream (int_run2 signed) feed.old feed.new (shared_out out.new held.new result) }
+    ensures reads { Reads F.rest F.fed F.fault_count stream (int_run2 signed) feed.old feed.new (given_then_held out.new held.new result) }
     ensures gives { GivesSomeIfOk (length out.old) held.new result }
 {
     let header = read_header(feed, stream)?;

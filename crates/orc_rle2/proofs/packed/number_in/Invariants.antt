@@ -1,6 +1,6 @@
 use Rattle.std.proofs.Common.{◌≡◌, ◌*◌, ◌^◌, ◌<◌, take}
 use Rattle.orc_rle2.specs.Packed.{number_of}
-use Rattle.orc_rle2.proofs.packed.number_of.Given as goal
+use Rattle.orc_rle2.proofs.packed.number_in.Given as goal
 
 abbrev pub invariant-loop-byte : goal.invariant-loop-byte
 invariant-loop-byte l = record {
