@@ -1,0 +1,62 @@
+-- Where the words of a pool lie in its table. Source: this project's own format.
+-- The arenas' words come first, then state, key, touches and last of each header, then the clock, then the cells.
+use Rattle.std.specs.Prelude.{◌≡◌, ℕ, ◌+◌, ◌*◌, ◌/◌, ◌^◌, ◌<◌, ◌≤◌}
+use Rattle.pool_rule.specs.declared.geometry.Geometry.{Geometry}
+use Rattle.pool_rule.specs.declared.geometry.WordName.{WordName}
+use Rattle.pool_rule.specs.declared.geometry.WordName.TheVariants.{Arena, State, KeyOf, Touches, Last, Clock}
+
+-- the headers, eight in a set
+abbrev pub headers_of : Geometry → ℕ
+headers_of g = 8 * g.sets
+
+-- the minimum blocks of all arenas, 64 in each
+abbrev pub places_of : Geometry → ℕ
+places_of g = 64 * g.arenas
+
+-- the cells of a minimum block, of eight bytes each
+abbrev pub block_cells : Geometry → ℕ
+block_cells g = g.min_block / 8
+
+-- the first of a header's four words
+abbrev pub header_word : Geometry → ℕ → ℕ
+header_word g header = g.arenas + 4 * header
+
+abbrev pub clock_word : Geometry → ℕ
+clock_word g = header_word g (headers_of g)
+
+-- the cell with that number, counted over all minimum blocks
+abbrev pub cell_word : Geometry → ℕ → ℕ
+cell_word g cell = clock_word g + 1 + cell
+
+-- all words
+abbrev pub word_count : Geometry → ℕ
+word_count g = cell_word g (places_of g * block_cells g)
+
+-- the index of a word
+abbrev pub index_of : Geometry → WordName → ℕ
+index_of g (Arena i) = i
+index_of g (State header) = header_word g header
+index_of g (KeyOf header) = header_word g header + 1
+index_of g (Touches header) = header_word g header + 2
+index_of g (Last header) = header_word g header + 3
+index_of g Clock = clock_word g
+
+-- the arena or the header is one of the pool's
+abbrev pub IsWord : Geometry → WordName → Type 0
+IsWord g (Arena i) = i < g.arenas
+IsWord g (State header) = header < headers_of g
+IsWord g (KeyOf header) = header < headers_of g
+IsWord g (Touches header) = header < headers_of g
+IsWord g (Last header) = header < headers_of g
+IsWord g Clock = Unit {0}
+
+-- each size is in its range
+pub record IsGeometry (g : Geometry) : Type 0 where
+  pub power : (k : ℕ) × (g.min_block ≡ 2 ^ k)
+  pub min_block : (64 ≤ g.min_block) × (g.min_block ≤ 65536)
+  pub arenas : (1 ≤ g.arenas) × (g.arenas ≤ 64)
+  pub sets : (1 ≤ g.sets) × (g.sets ≤ 4096)
+
+-- as many numbers as there may be seats
+abbrev pub AreSeats : ℕ → Type 0
+AreSeats seats = (1 ≤ seats) × (seats ≤ 64)

@@ -1,0 +1,4 @@
+pub mod Layout
+pub mod Seats
+pub mod Headers
+pub mod Rule

@@ -1,0 +1,15 @@
+//! The words of a pool that seats share, what each seat knows of them, and the rule that ties them to a lawful pool.
+//!
+//! A pool is one table of atomic words: a word of bits for each arena, four words for each header, a clock, and the
+//! cells. Each seat has a view: its numbers, what it holds and claims, its granted blocks, the words if it knows them,
+//! and its trail. The rule says for which pool of `pool_model` words and views stand. It holds between any two steps,
+//! whoever makes them. The functions of `Words` make one step each, and say what becomes of the view.
+#![tactic(auto)]
+
+mod geometry;
+mod rule;
+mod view;
+
+pub use geometry::{Geometry, Setup, WordName};
+pub use rule::PoolRule;
+pub use view::{Claim, Deed, Event, Hold, Mark, View};
