@@ -1,6 +1,7 @@
 -- Where the words of a pool lie in its table. Source: this project's own format.
 -- The arenas' words come first, then state, key, touches and last of each header, then the clock, then the cells.
-use Rattle.std.specs.Prelude.{◌≡◌, ℕ, ◌+◌, ◌*◌, ◌/◌, ◌^◌, ◌<◌, ◌≤◌}
+use Rattle.std.specs.Prelude.{ℕ, ◌+◌, ◌*◌, ◌/◌, ◌<◌, ◌≤◌, IsTrue}
+use Rattle.std.specs.Int.{is_power_of_two}
 use Rattle.pool_rule.specs.declared.geometry.Geometry.{Geometry}
 use Rattle.pool_rule.specs.declared.geometry.WordName.{WordName}
 use Rattle.pool_rule.specs.declared.geometry.WordName.TheVariants.{Arena, State, KeyOf, Touches, Last, Clock}
@@ -52,7 +53,7 @@ IsWord g Clock = Unit {0}
 
 -- each size is in its range
 pub record IsGeometry (g : Geometry) : Type 0 where
-  pub power : (k : ℕ) × (g.min_block ≡ 2 ^ k)
+  pub power : IsTrue (is_power_of_two g.min_block)
   pub min_block : (64 ≤ g.min_block) × (g.min_block ≤ 65536)
   pub arenas : (1 ≤ g.arenas) × (g.arenas ≤ 64)
   pub sets : (1 ≤ g.sets) × (g.sets ≤ 4096)

@@ -2,3 +2,4 @@ pub mod Layout
 pub mod Seats
 pub mod Headers
 pub mod Rule
+pub mod Plays

@@ -6,6 +6,7 @@
 //! whoever makes them. The functions of `Words` make one step each, and say what becomes of the view.
 #![tactic(auto)]
 
+mod checks;
 mod geometry;
 mod rule;
 mod view;

@@ -1,0 +1,9 @@
+-- Lemmas of the rule, lowest first.
+pub mod Lists
+pub mod Story
+pub mod Frame
+pub mod Quiet
+pub mod Learn
+pub mod Blocks
+pub mod Grants
+pub mod Probe
