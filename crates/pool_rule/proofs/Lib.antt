@@ -6,4 +6,6 @@ pub mod Quiet
 pub mod Learn
 pub mod Blocks
 pub mod Grants
+pub mod Seated
+pub mod Opening
 pub mod Probe

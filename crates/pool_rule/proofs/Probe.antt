@@ -1,4 +1,3 @@
-use Rattle.pool_rule.proofs.Quiet.{notes, told}
-use Rattle.pool_rule.proofs.Learn.{learns}
-use Rattle.pool_rule.proofs.Grants.{takes, gives}
-pub ruleset probe = (notes, told, learns, takes, gives)
+use Rattle.pool_rule.proofs.Seated.{parts, joins}
+use Rattle.pool_rule.proofs.Opening.{opens}
+pub ruleset probe = (parts, joins, opens)
