@@ -7,15 +7,21 @@ ghost use Rattle.pool_model.specs.Laws.{EveryRunIsLawful, LawfulIsDisjoint, Owne
 /// buffer stays live where it is, with its key and its cells.
 pub fn every_run_is_lawful()
     ensures { EveryRunIsLawful }
-{}
+{
+    pool_model::laws::every_run_is_lawful();
+}
 
 /// No two of the blocks, targets and grants of a lawful pool have a minimum block in common.
 pub fn lawful_is_disjoint()
     ensures { LawfulIsDisjoint }
-{}
+{
+    pool_model::laws::lawful_is_disjoint();
+}
 
 /// The sum by which a pool is called lawful counts what has a minimum block: it is 0 exactly where no block, target or
 /// grant has it, and at most 1 exactly where no two have it.
 pub fn owners_are_parts()
     ensures { OwnersAreParts }
-{}
+{
+    pool_model::laws::owners_are_parts();
+}

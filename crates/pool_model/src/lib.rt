@@ -9,6 +9,7 @@ mod block;
 mod buffer;
 mod buffer_steps;
 mod content;
+pub mod laws;
 mod owned;
 mod pool;
 mod sequence;

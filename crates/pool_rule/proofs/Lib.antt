@@ -8,4 +8,4 @@ pub mod Blocks
 pub mod Grants
 pub mod Seated
 pub mod Opening
-pub mod Probe
+pub mod Allowed

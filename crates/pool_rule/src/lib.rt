@@ -6,11 +6,15 @@
 //! whoever makes them. The functions of `Words` make one step each, and say what becomes of the view.
 #![tactic(auto)]
 
-mod checks;
 mod geometry;
+mod lost;
+mod plays;
 mod rule;
 mod view;
+mod words;
 
 pub use geometry::{Geometry, Setup, WordName};
+pub use lost::LostGrant;
 pub use rule::PoolRule;
 pub use view::{Claim, Deed, Event, Hold, Mark, View};
+pub use words::Words;

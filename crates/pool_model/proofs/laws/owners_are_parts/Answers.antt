@@ -1,4 +1,4 @@
-use Rattle.buffer_pool.proofs.laws.owners_are_parts.Goals as goal
+use Rattle.pool_model.proofs.laws.owners_are_parts.Goals as goal
 use Rattle.pool_model.proofs.PartsAreOwners.{owners_count_parts}
 
 pub returns : goal.returns

@@ -1,4 +1,4 @@
-use Rattle.buffer_pool.proofs.laws.lawful_is_disjoint.Goals as goal
+use Rattle.pool_model.proofs.laws.lawful_is_disjoint.Goals as goal
 use Rattle.pool_model.proofs.Runs.{lawful_is_disjoint}
 
 pub returns : goal.returns

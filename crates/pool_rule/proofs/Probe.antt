@@ -1,3 +1,0 @@
-use Rattle.pool_rule.proofs.Seated.{parts, joins}
-use Rattle.pool_rule.proofs.Opening.{opens}
-pub ruleset probe = (parts, joins, opens)

@@ -1,0 +1,27 @@
+use Rattle.std.proofs.Common.{◌≡◌, ℕ, refl, sym, ap, ◌∙◌, subst}
+use mathlib.Core.Option.{none}
+use Rattle.atomic_table.specs.Table.{Allows, step}
+use Rattle.pool_rule.specs.declared.geometry.Geometry.{Geometry}
+use Rattle.pool_rule.specs.declared.view.View.{View}
+use Rattle.pool_rule.specs.Layout.{IsWord, index_of}
+use Rattle.pool_rule.specs.Plays.{loads}
+use Rattle.pool_rule.specs.Rule.{IsKept}
+use Rattle.pool_rule.specs.Words.{learnt}
+use Rattle.pool_rule.proofs.Allowed.{load_allowed}
+use Rattle.pool_rule.proofs.words.Words.load.Goals as goal
+
+pub load-requires : goal.load-requires
+load-requires g c =
+    let shared = c.args.self.now.table.shared in
+    let seat = c.args.seat.now in
+    let word = c.args.word in
+    let told : shared.key.geometry ≡ c.args.self.now.geometry = c.args.self.now.told in
+    let I : Geometry → Type 0 = λ x. IsWord x word in
+    let P : ℕ × (ℕ → View → View) → Type 0 = λ z. Allows (IsKept g.W.World.files shared.key) shared.table_id.slots seat.id seat.me z.0 (λ n. n) (loads z.1 (step shared.table_id.slots z.0 0 0 none) seat.me) in
+    let at : index_of shared.key.geometry word ≡ c.index.result = ap (λ x. index_of x word) told ∙ sym c.index.ensures.same in
+    let change : learnt word ≡ g.C.Change.change = sym c.requires.change in
+    (
+      c.requires.seat.table_is,
+      c.index.ensures.inside,
+      subst P (λ i. (at i, change i)) (load_allowed g.W.World.files shared.key shared.table_id.slots seat.id seat.me c.requires.seat.numbers word (subst I (sym told) c.requires.word) c.every_run_is_lawful.ensures),
+    )
