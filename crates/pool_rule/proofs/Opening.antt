@@ -81,7 +81,7 @@ no_buffer seat = ((λ h. h), (λ h. h))
 
 -- ---- the numbers
 
-length-numbers : (first count : ℕ) → length (numbers_from first count) ≡ count
+pub length-numbers : (first count : ℕ) → length (numbers_from first count) ≡ count
 length-numbers first zero = refl
 length-numbers first (suc count) = let e = length-numbers (first + 1) count in omega (arith, e)
 

@@ -27,11 +27,10 @@ pub record IsSeatAt (table : TableId) (seat : Sitting) : Type 0 where
   pub numbers : 0 < length (view seat).numbers
   pub no_slot : seat.me.1 ≡ []
 
--- the same seat of the same table, which has numbers as before
-pub record IsSameSeat (old new : Sitting) : Type 0 where
-  pub table_is : new.table_id ≡ old.table_id
+-- the same seat, still of the table
+pub record IsStill (table : TableId) (old new : Sitting) : Type 0 where
+  pub seat : IsSeatAt table new
   pub id_is : new.id ≡ old.id
-  pub slots : new.me.1 ≡ old.me.1
 
 -- what a load of a word tells: that of a key word tells the key of a pin or of a buffer that moves
 abbrev pub learnt : WordName → ℕ → View → View
@@ -50,15 +49,22 @@ looked g word found v = noted (index_of g word) found found Loaded (learnt word 
 abbrev pub mask_of : Block → ℕ
 mask_of b = (2 ^ 2 ^ b.order - 1) * 2 ^ (b.place % 64)
 
+-- what taking a block does to a view beside its trail, and what giving it back does
+abbrev pub taking : ℕ → Block → View → View
+taking id b v = with_step (Grant id b) (with_granted b.place (Some b.order) v)
+
+abbrev pub giving : ℕ → Block → View → View
+giving id b v = with_step (Ungrant id b) (with_granted b.place None v)
+
 -- the view of a seat after it took a block, where it found that word
 abbrev pub took : ℕ → Block → ℕ → View → View
 took id b found v =
-    noted (b.place / 64) found (bit_or found (mask_of b)) Exchanged (with_step (Grant id b) (with_granted b.place (Some b.order) v))
+    noted (b.place / 64) found (bit_or found (mask_of b)) Exchanged (taking id b v)
 
 -- the view after it gave a block back
 abbrev pub gave : ℕ → Block → ℕ → View → View
 gave id b found v =
-    noted (b.place / 64) found (bit_and found (bit_not w64 (mask_of b))) Changed (with_step (Ungrant id b) (with_granted b.place None v))
+    noted (b.place / 64) found (bit_and found (bit_not w64 (mask_of b))) Changed (giving id b v)
 
 -- the view after an exchange that found another word than was expected
 abbrev pub missed : ℕ → ℕ → View → View

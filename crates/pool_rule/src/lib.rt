@@ -7,6 +7,7 @@
 #![tactic(auto)]
 
 mod geometry;
+mod laid;
 mod lost;
 mod plays;
 mod rule;

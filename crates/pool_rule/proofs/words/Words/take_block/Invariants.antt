@@ -1,0 +1,5 @@
+use Rattle.pool_rule.specs.Words.{taking}
+use Rattle.pool_rule.proofs.words.Words.take_block.Given as goal
+
+abbrev pub ghosts-exchange : goal.ghosts-exchange
+ghosts-exchange g a = record { change = λ _ v. taking a.seat.now.id a.block v }
