@@ -4,3 +4,4 @@ pub mod Headers
 pub mod Rule
 pub mod Plays
 pub mod Words
+pub mod Tables

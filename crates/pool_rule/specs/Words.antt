@@ -10,7 +10,7 @@ use Rattle.pool_rule.specs.declared.geometry.WordName.TheVariants.{Arena, State,
 use Rattle.pool_rule.specs.declared.geometry.Geometry.{Geometry}
 use Rattle.pool_rule.specs.declared.view.Deed.TheVariants.{Loaded, Exchanged, Failed, Changed}
 use Rattle.pool_rule.specs.declared.view.View.{View}
-use Rattle.pool_rule.specs.Layout.{index_of}
+use Rattle.pool_rule.specs.Layout.{headers_of, places_of, index_of}
 use Rattle.pool_rule.specs.Seats.{noted, with_step, with_granted, with_key}
 
 -- a seat of a pool's table
@@ -21,15 +21,22 @@ Sitting = Seat (Unit {0}) View
 abbrev pub view : Sitting → View
 view seat = seat.me.0
 
--- the seat is of that table, has numbers and holds no slot
-pub record IsSeatAt (table : TableId) (seat : Sitting) : Type 0 where
+-- the view of a seat that isn't spent: it has numbers, and a place for each header and each minimum block
+pub record IsLive (g : Geometry) (v : View) : Type 0 where
+  pub numbers : 0 < length v.numbers
+  pub geometry : v.geometry ≡ g
+  pub marks : length v.marks ≡ headers_of g
+  pub granted : length v.granted ≡ places_of g
+
+-- the seat is of that table of those sizes, isn't spent and holds no slot
+pub record IsSeatAt (table : TableId) (g : Geometry) (seat : Sitting) : Type 0 where
   pub table_is : seat.table_id ≡ table
-  pub numbers : 0 < length (view seat).numbers
   pub no_slot : seat.me.1 ≡ []
+  pub live : IsLive g (view seat)
 
 -- the same seat, still of the table
-pub record IsStill (table : TableId) (old new : Sitting) : Type 0 where
-  pub seat : IsSeatAt table new
+pub record IsStill (table : TableId) (g : Geometry) (old new : Sitting) : Type 0 where
+  pub seat : IsSeatAt table g new
   pub id_is : new.id ≡ old.id
 
 -- what a load of a word tells: that of a key word tells the key of a pin or of a buffer that moves

@@ -11,11 +11,12 @@ mod laid;
 mod lost;
 mod plays;
 mod rule;
+mod steps;
 mod view;
 mod words;
 
 pub use geometry::{Geometry, Setup, WordName};
 pub use lost::LostGrant;
 pub use rule::PoolRule;
-pub use view::{Claim, Deed, Event, Hold, Mark, View};
+pub use view::{Claim, Deed, Event, Hold, Mark, Sitting, View};
 pub use words::Words;

@@ -1,6 +1,7 @@
 //! What a seat knows. No value of these types is ever made: they exist for contracts and proofs alone.
 
 use crate::Geometry;
+use atomic_table::Seat;
 use pool_model::{Block, BufferKey, Sequence, Step};
 
 /// What a seat has of a header's count.
@@ -98,3 +99,6 @@ pub struct View {
     /// The steps of the pool that the seat made, the first one first.
     pub steps: Sequence<Step>,
 }
+
+/// A seat of a pool's table. It has no bytes, and a view of what it knows and has.
+pub type Sitting = Seat<(), View>;

@@ -15,7 +15,7 @@ use Rattle.pool_rule.specs.Seats.{noted}
 use Rattle.pool_rule.specs.Words.{taking, mask_of}
 use Rattle.pool_rule.proofs.Allowed.{take_allowed}
 use Rattle.pool_rule.proofs.Blocks.{place_below}
-use Rattle.pool_rule.proofs.Sitting.{still, took_some, noted_some}
+use Rattle.pool_rule.proofs.Sitting.{still, noted_live, taking_live}
 use Rattle.pool_rule.proofs.words.Words.exchange.Goals as goal
 
 pub compare_exchange-requires : goal.compare_exchange-requires
@@ -32,7 +32,7 @@ compare_exchange-requires g c =
     (
       c.requires.seat.table_is,
       omega (arith, c.args.self.now.all_words, below),
-      subst P (sym c.requires.change) (take_allowed g.W.World.files shared.key shared.table_id.slots seat.id seat.me c.requires.seat.numbers c.covers_in_arena.ensures b (subst B (sym told) c.requires.block) bits c.mask-bits.ensures.mask c.setting_takes.ensures seen c.requires.clear),
+      subst P (sym c.requires.change) (take_allowed g.W.World.files shared.key shared.table_id.slots seat.id seat.me c.requires.seat.live.numbers c.covers_in_arena.ensures b (subst B (sym told) c.requires.block) bits c.mask-bits.ensures.mask c.setting_takes.ensures seen c.requires.clear),
     )
 
 pub returns-clause-seat : goal.returns-clause-seat
@@ -47,9 +47,9 @@ returns-clause-seat g c =
       | inl hit ↦
           let w = noted i found new Exchanged (taking old.id b old.me.0) in
           let same : noted i found new Exchanged (g.C.Change.change found old.me.0) ≡ w = ap (λ (f : ℕ → View → View). noted i found new Exchanged (f found old.me.0)) c.requires.change in
-          still table old c.compare_exchange.new.seat w c.requires.seat c.compare_exchange.ensures.0 c.compare_exchange.ensures.1
-          (c.compare_exchange.ensures.2.1 hit ∙ ap (λ (v : View). (v, old.me.1)) same) (took_some i found new Exchanged old.id b old.me.0 c.requires.seat.numbers)
+          still table c.args.self.now.geometry old c.compare_exchange.new.seat w c.requires.seat c.compare_exchange.ensures.0 c.compare_exchange.ensures.1
+          (c.compare_exchange.ensures.2.1 hit ∙ ap (λ (v : View). (v, old.me.1)) same) (noted_live c.args.self.now.geometry (taking old.id b old.me.0) (taking_live c.args.self.now.geometry old.me.0 c.requires.seat.live old.id b) i found new Exchanged)
       | inr miss ↦
-          still table old c.compare_exchange.new.seat (noted i found found Failed old.me.0) c.requires.seat c.compare_exchange.ensures.0 c.compare_exchange.ensures.1
-          (c.compare_exchange.ensures.2.2 miss) (noted_some i found found Failed old.me.0 c.requires.seat.numbers)
+          still table c.args.self.now.geometry old c.compare_exchange.new.seat (noted i found found Failed old.me.0) c.requires.seat c.compare_exchange.ensures.0 c.compare_exchange.ensures.1
+          (c.compare_exchange.ensures.2.2 miss) (noted_live c.args.self.now.geometry old.me.0 c.requires.seat.live i found found Failed)
     ]

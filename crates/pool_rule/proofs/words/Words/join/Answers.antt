@@ -2,7 +2,7 @@ use Rattle.std.proofs.Common.{◌≡◌, ◌<◌, arith}
 use Rattle.pool_rule.specs.Layout.{word_count}
 use Rattle.pool_rule.specs.Seats.{joined}
 use Rattle.pool_rule.proofs.Allowed.{join_allowed}
-use Rattle.pool_rule.proofs.Sitting.{still, joined_some}
+use Rattle.pool_rule.proofs.Sitting.{still, joined_live}
 use Rattle.pool_rule.proofs.words.Words.join.Goals as goal
 
 pub join_seat-requires : goal.join_seat-requires
@@ -14,11 +14,11 @@ join_seat-requires g c =
       c.requires.other.table_is,
       c.requires.other.no_slot,
       omega (arith, c.args.self.now.all_words),
-      join_allowed g.W.World.files shared.key shared.table_id.slots seat.id seat.me c.requires.seat.numbers c.args.other.id c.args.other.me.0 c.requires.nothing,
+      join_allowed g.W.World.files shared.key shared.table_id.slots seat.id seat.me c.requires.seat.live.numbers c.args.other.id c.args.other.me.0 c.requires.nothing,
     )
 
 pub returns-clause-seat : goal.returns-clause-seat
 returns-clause-seat g c =
     let old = c.args.seat.now in
-    still c.args.self.now.table.shared.table_id old c.join_seat.new.seat (joined old.me.0 c.args.other.me.0) c.requires.seat c.join_seat.ensures.0 c.join_seat.ensures.1
-    c.join_seat.ensures.2 (joined_some old.me.0 c.args.other.me.0 c.requires.seat.numbers)
+    still c.args.self.now.table.shared.table_id c.args.self.now.geometry old c.join_seat.new.seat (joined old.me.0 c.args.other.me.0) c.requires.seat c.join_seat.ensures.0 c.join_seat.ensures.1
+    c.join_seat.ensures.2 (joined_live c.args.self.now.geometry old.me.0 c.requires.seat.live c.args.other.me.0)

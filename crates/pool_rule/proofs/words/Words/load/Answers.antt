@@ -10,7 +10,7 @@ use Rattle.pool_rule.specs.Rule.{IsKept}
 use Rattle.pool_rule.specs.Seats.{noted}
 use Rattle.pool_rule.specs.Words.{learnt}
 use Rattle.pool_rule.proofs.Allowed.{load_allowed}
-use Rattle.pool_rule.proofs.Sitting.{still, looked_some}
+use Rattle.pool_rule.proofs.Sitting.{still, noted_live, learnt_live}
 use Rattle.pool_rule.proofs.words.Words.load.Goals as goal
 
 pub load-requires : goal.load-requires
@@ -26,7 +26,7 @@ load-requires g c =
     (
       c.requires.seat.table_is,
       c.index.ensures.inside,
-      subst P (λ i. (at i, change i)) (load_allowed g.W.World.files shared.key shared.table_id.slots seat.id seat.me c.requires.seat.numbers word (subst I (sym told) c.requires.word) c.every_run_is_lawful.ensures),
+      subst P (λ i. (at i, change i)) (load_allowed g.W.World.files shared.key shared.table_id.slots seat.id seat.me c.requires.seat.live.numbers word (subst I (sym told) c.requires.word) c.every_run_is_lawful.ensures),
     )
 
 pub returns-clause-seat : goal.returns-clause-seat
@@ -36,5 +36,5 @@ returns-clause-seat g c =
     let found = c.load.result in
     let change : g.C.Change.change ≡ learnt c.args.word = c.requires.change in
     let same : noted i found found Loaded (g.C.Change.change found old.me.0) ≡ noted i found found Loaded (learnt c.args.word found old.me.0) = ap (λ (f : ℕ → View → View). noted i found found Loaded (f found old.me.0)) change in
-    still c.args.self.now.table.shared.table_id old c.load.new.seat (noted i found found Loaded (learnt c.args.word found old.me.0)) c.requires.seat c.load.ensures.0 c.load.ensures.1
-    (c.load.ensures.2.1 ∙ ap (λ (v : View). (v, old.me.1)) same) (looked_some i found Loaded c.args.word old.me.0 c.requires.seat.numbers)
+    still c.args.self.now.table.shared.table_id c.args.self.now.geometry old c.load.new.seat (noted i found found Loaded (learnt c.args.word found old.me.0)) c.requires.seat c.load.ensures.0 c.load.ensures.1
+    (c.load.ensures.2.1 ∙ ap (λ (v : View). (v, old.me.1)) same) (noted_live c.args.self.now.geometry (learnt c.args.word found old.me.0) (learnt_live c.args.self.now.geometry old.me.0 c.requires.seat.live c.args.word found) i found found Loaded)

@@ -13,7 +13,7 @@ use Rattle.pool_rule.specs.Seats.{noted}
 use Rattle.pool_rule.specs.Words.{giving, mask_of}
 use Rattle.pool_rule.proofs.Allowed.{give_allowed}
 use Rattle.pool_rule.proofs.Blocks.{place_below}
-use Rattle.pool_rule.proofs.Sitting.{still, gave_some}
+use Rattle.pool_rule.proofs.Sitting.{still, noted_live, giving_live}
 use Rattle.pool_rule.proofs.words.Words.mask_out.Goals as goal
 
 pub fetch_and-requires : goal.fetch_and-requires
@@ -29,7 +29,7 @@ fetch_and-requires g c =
     (
       c.requires.seat.table_is,
       omega (arith, c.args.self.now.all_words, below),
-      subst P (sym c.requires.change) (give_allowed g.W.World.files shared.key shared.table_id.slots seat.id seat.me c.requires.seat.numbers c.covers_in_arena.ensures b (subst B (sym told) c.requires.block) bits c.mask-bits.ensures.mask c.clearing_gives.ensures c.requires.granted (omega arith)),
+      subst P (sym c.requires.change) (give_allowed g.W.World.files shared.key shared.table_id.slots seat.id seat.me c.requires.seat.live.numbers c.covers_in_arena.ensures b (subst B (sym told) c.requires.block) bits c.mask-bits.ensures.mask c.clearing_gives.ensures c.requires.granted (omega arith)),
     )
 
 pub returns-clause-seat : goal.returns-clause-seat
@@ -41,5 +41,5 @@ returns-clause-seat g c =
     let new = bit_and found (bit_not w64 c.mask-bits.result) in
     let w = noted i found new Changed (giving old.id b old.me.0) in
     let same : noted i found new Changed (g.C.Change.change found old.me.0) ≡ w = ap (λ (f : ℕ → View → View). noted i found new Changed (f found old.me.0)) c.requires.change in
-    still c.args.self.now.table.shared.table_id old c.fetch_and.new.seat w c.requires.seat c.fetch_and.ensures.0 c.fetch_and.ensures.1
-    (c.fetch_and.ensures.2.1 ∙ ap (λ (v : View). (v, old.me.1)) same) (gave_some i found new Changed old.id b old.me.0 c.requires.seat.numbers)
+    still c.args.self.now.table.shared.table_id c.args.self.now.geometry old c.fetch_and.new.seat w c.requires.seat c.fetch_and.ensures.0 c.fetch_and.ensures.1
+    (c.fetch_and.ensures.2.1 ∙ ap (λ (v : View). (v, old.me.1)) same) (noted_live c.args.self.now.geometry (giving old.id b old.me.0) (giving_live c.args.self.now.geometry old.me.0 c.requires.seat.live old.id b) i found new Changed)

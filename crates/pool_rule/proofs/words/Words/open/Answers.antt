@@ -3,8 +3,9 @@ use Rattle.atomic_table.specs.Table.{State}
 use Rattle.pool_rule.specs.declared.view.View.{View}
 use Rattle.pool_rule.specs.Layout.{word_count}
 use Rattle.pool_rule.specs.Rule.{IsKept, first_words, first_view}
-use Rattle.pool_rule.specs.Seats.{numbers_from}
-use Rattle.pool_rule.proofs.Opening.{opens, length-first, length-numbers}
+use Rattle.pool_rule.specs.Words.{IsLive}
+use Rattle.pool_rule.proofs.Opening.{opens, length-first}
+use Rattle.pool_rule.proofs.Sitting.{first_live}
 use Rattle.pool_rule.proofs.words.Words.open.Goals as goal
 
 pub of_words-requires : goal.of_words-requires
@@ -27,14 +28,13 @@ invariant_of-words g c =
 pub returns : goal.returns
 returns g c =
     let setup = c.args.setup in
-    let P : View → Type 0 = λ v. 0 < length v.numbers in
+    let P : View → Type 0 = λ v. IsLive setup.geometry v in
     let is : c.in_ok-table.seat.me.0 ≡ first_view setup = ap (λ m. m.0) c.in_ok-table.ensures.4 in
-    let some_numbers : 0 < length (numbers_from 0 setup.seats) = omega (arith, length-numbers 0 setup.seats, c.requires.seats) in
     (
       refl,
       record {
         table_is = c.in_ok-table.ensures.2;
-        numbers = subst P (sym is) some_numbers;
+        live = subst P (sym is) (first_live setup (omega (arith, c.requires.seats)));
         no_slot = ap (λ m. m.1) c.in_ok-table.ensures.4;
       },
       c.in_ok-table.ensures.3,

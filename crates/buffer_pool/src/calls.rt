@@ -1,0 +1,116 @@
+//! The calls that are one atomic step each.
+
+ghost use Rattle.std.specs.Prelude.{◌≡◌, ◌≢◌, ℕ, ◌+◌, ◌%◌, ◌/◌, ◌^◌, ◌<◌, [], ◌∷◌, ◌++◌, length, Some, None, IfOk, IfErr, OnOk, MatchResult, bit_and, bit_or};
+ghost use Rattle.std.specs.Int.{w64, bit_not};
+ghost use Rattle.buddy_arena.specs.Block.{IsClear};
+ghost use Rattle.pool_model.specs.declared.step.Step as step;
+ghost use Rattle.pool_rule.specs.declared.view.Event.TheVariants.{Parted, Joined};
+ghost use Rattle.pool_rule.specs.Layout.{IsWord, index_of};
+ghost use Rattle.pool_rule.specs.Seats.{HasNothing, Told, granted_at, joined, parted, part_of};
+ghost use Rattle.pool_rule.specs.Words.{looked, took, gave, missed, mask_of};
+ghost use Rattle.buffer_pool.specs.Pools.{view, seat_id, sizes_of, block_of, block_at, IsSeatOf, IsSameSeat, IsBlockOf};
+ghost use Rattle.buffer_pool.specs.Calls.{Steps, KeepsAll, KeepsOthers, load_of, exchange_of, miss_of, mask_out_of};
+
+use crate::{Grant, LostGrant, Pool, PoolSeat, WordName};
+use outside::World;
+use pool_model::Block;
+use std::marker::PhantomData;
+
+/// Loads a word, in one step.
+///
+/// A load of a header's key word tells the key to a pin of that header, or to a buffer that the seat is moving.
+pub fn look<W: World>(pool: &Pool<W>, seat: &mut PoolSeat<W>, word: WordName) -> u64
+    requires seat { IsSeatOf pool.now seat.old }
+    requires word { IsWord (sizes_of pool.now) word }
+    ensures seat { IsSameSeat pool.now seat.old seat.new }
+    ensures view { view seat.new ≡ looked (sizes_of pool.now) word result (view seat.old) }
+    ensures step { Steps (index_of (sizes_of pool.now) word) result result (load_of (index_of (sizes_of pool.now) word) result) (view seat.old) (view seat.new) }
+{
+    pool.words.look(&mut seat.seat, word)
+}
+
+/// Takes a block for the seat, in one step: an exchange of the arena's word from `seen`, in which the block is clear, to
+/// the same with the block's bits set.
+///
+/// The place is counted in minimum blocks over all arenas, and is a multiple of `2^order`; the order is at most 6.
+///
+/// `LostGrant` comes only where the exchange found another word than `seen`. The pool is then as it was.
+pub fn grant<W: World>(
+    pool: &Pool<W>,
+    seat: &mut PoolSeat<W>,
+    place: u32,
+    order: u32,
+    seen: u64,
+) -> Result<Grant, LostGrant>
+    requires seat { IsSeatOf pool.now seat.old }
+    requires block { IsBlockOf pool.now (block_at place order) }
+    requires clear { IsClear seen (place % 64) order }
+    ensures seat { IsSameSeat pool.now seat.old seat.new }
+    ensures token { IfOk result (λ g. (block_of g ≡ block_at place order) × (granted_at (view seat.new) place ≡ Some order)) }
+    ensures ok { OnOk result (view seat.new ≡ took (seat_id seat.old) (block_at place order) seen (view seat.old)) }
+    ensures ok_step { OnOk result (Steps (place / 64) seen (bit_or seen (mask_of (block_at place order))) (exchange_of (block_at place order) seen) (view seat.old) (view seat.new)) }
+    ensures ok_others { OnOk result (KeepsOthers place (step.TheVariants.Grant (seat_id seat.old) (block_at place order)) (view seat.old) (view seat.new)) }
+    ensures err { IfErr result (λ e. (e.saw ≢ seen) × (view seat.new ≡ missed (place / 64) e.saw (view seat.old))) }
+    ensures err_step { IfErr result (λ e. Steps (place / 64) e.saw e.saw (miss_of (block_at place order) e.saw) (view seat.old) (view seat.new)) }
+    ensures err_all { IfErr result (λ e. KeepsAll (view seat.old) (view seat.new)) }
+{
+    let block = Block { place, order };
+    match pool.words.take_block(&mut seat.seat, block, seen) {
+        Ok(()) => Ok(Grant { block }),
+        Err(lost) => Err(lost),
+    }
+}
+
+/// Gives a granted block back, in one step: a fetch_and clears its bits in the arena's word.
+pub fn ungrant<W: World>(pool: &Pool<W>, seat: &mut PoolSeat<W>, grant: Grant)
+    requires seat { IsSeatOf pool.now seat.old }
+    requires block { IsBlockOf pool.now (block_of grant) }
+    requires granted { granted_at (view seat.old) (block_of grant).place ≡ Some (block_of grant).order }
+    ensures seat { IsSameSeat pool.now seat.old seat.new }
+    ensures gone { granted_at (view seat.new) (block_of grant).place ≡ None }
+    ensures step { (found : ℕ) × (found < 2 ^ 64) × (view seat.new ≡ gave (seat_id seat.old) (block_of grant) found (view seat.old)) × Steps ((block_of grant).place / 64) found (bit_and found (bit_not w64 (mask_of (block_of grant)))) (mask_out_of (block_of grant) found) (view seat.old) (view seat.new) }
+    ensures others { KeepsOthers (block_of grant).place (step.TheVariants.Ungrant (seat_id seat.old) (block_of grant)) (view seat.old) (view seat.new) }
+{
+    let Grant { block } = grant;
+    pool.words.give_block(&mut seat.seat, block);
+}
+
+/// Parts a seat, in one step. The new seat has its last numbers, so many of them, and nothing else.
+///
+/// The seat has more numbers than that, and `numbers` is at least 1. Neither seat knows the words from then on.
+pub fn split<W: World>(pool: &Pool<W>, seat: &mut PoolSeat<W>, numbers: u32) -> PoolSeat<W>
+    requires seat { IsSeatOf pool.now seat.old }
+    requires numbers { (0 < numbers) × (numbers < length (view seat.old).numbers) }
+    ensures seat { IsSameSeat pool.now seat.old seat.new }
+    ensures new { IsSeatOf pool.now result }
+    ensures view { view seat.new ≡ parted numbers (view seat.old) }
+    ensures part { view result ≡ part_of numbers (view seat.old) }
+    ensures numbers { (view seat.new).numbers ++ (view result).numbers ≡ (view seat.old).numbers }
+    ensures count { length (view result).numbers ≡ numbers }
+    ensures trail { (view seat.new).trail ≡ (view seat.old).trail ++ Parted numbers ∷ [] }
+    ensures keeps { KeepsAll (view seat.old) (view seat.new) }
+    ensures nothing { HasNothing (view result) × ((view result).trail ≡ []) }
+{
+    let part = pool.words.split(&mut seat.seat, numbers);
+    PoolSeat {
+        seat: part,
+        world: PhantomData,
+    }
+}
+
+/// Joins another seat to this one, in one step: its numbers come back, and it is spent.
+///
+/// The other has no pin, no claim and no grant. The seat doesn't know the words from then on.
+pub fn join<W: World>(pool: &Pool<W>, seat: &mut PoolSeat<W>, other: PoolSeat<W>)
+    requires seat { IsSeatOf pool.now seat.old }
+    requires other { IsSeatOf pool.now other }
+    requires nothing { HasNothing (view other) }
+    ensures seat { IsSameSeat pool.now seat.old seat.new }
+    ensures view { view seat.new ≡ joined (view seat.old) (view other) }
+    ensures numbers { (view seat.new).numbers ≡ (view seat.old).numbers ++ (view other).numbers }
+    ensures trail { (view seat.new).trail ≡ (view seat.old).trail ++ Joined ∷ [] }
+    ensures keeps { KeepsAll (view seat.old) (view seat.new) }
+{
+    let PoolSeat { seat: spent, world: _ } = other;
+    pool.words.join(&mut seat.seat, spent);
+}

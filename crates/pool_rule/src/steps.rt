@@ -1,0 +1,203 @@
+//! The steps that seats make, one atomic step each.
+
+ghost use Rattle.std.specs.Prelude.{◌≡◌, ◌≢◌, ℕ, ◌*◌, ◌/◌, ◌%◌, ◌<◌, length, Some, IfOk, OnOk, IfErr};
+ghost use Rattle.buddy_arena.specs.Block.{IsClear};
+ghost use Rattle.pool_model.specs.Block.{IsBlock};
+ghost use Rattle.pool_rule.specs.Layout.{IsWord, IsGeometry, AreSeats, index_of, places_of};
+ghost use Rattle.pool_rule.specs.Rule.{first_view};
+ghost use Rattle.pool_rule.specs.Seats.{HasNothing, Told, granted_at, joined, parted, part_of};
+ghost use Rattle.pool_rule.specs.Tables.{geometry_of, table_of};
+ghost use Rattle.pool_rule.specs.Words.{view, IsSeatAt, IsStill, learnt, looked, taking, giving, took, gave, missed};
+
+use crate::laid::first_words;
+use crate::plays::{Change, Count, Exchanges, Joins, Loads, Masks, Parts};
+use crate::{Geometry, LostGrant, Setup, Sitting, WordName, Words};
+use atomic_table::Table;
+use buddy_arena::mask;
+use outside::World;
+use pool_model::Block;
+use std::alloc::{AllocError, Global};
+use std::marker::Brand;
+
+impl<W: World> Words<W> {
+    /// The words of a new pool: every header is released without a count, every bit is clear, and every cell is 0. The
+    /// seat has all numbers.
+    ///
+    /// `AllocError` comes for want of memory alone.
+    pub fn open(
+        alloc: Global,
+        setup: Setup,
+    ) -> Result<(Words<W>, Sitting), AllocError>
+        requires geometry { IsGeometry setup.geometry }
+        requires seats { AreSeats setup.seats }
+        ensures { IfOk result (λ r. (geometry_of r.0 ≡ setup.geometry) × IsSeatAt (table_of r.0) (geometry_of r.0) r.1 × (r.1.id ≡ 0) × (view r.1 ≡ first_view setup)) }
+    {
+        let words = first_words(alloc, setup.geometry)?;
+        let (table, seat) = Table::of_words(alloc, words.as_slice(), &setup)?;
+        let words = Words {
+            table,
+            geometry: setup.geometry,
+        };
+        Ok((words, seat))
+    }
+
+    /// The sizes that the pool was made with.
+    pub fn geometry(&self) -> Geometry
+        ensures sizes { result ≡ geometry_of self.now }
+        ensures in_range { IsGeometry result }
+    {
+        self.geometry
+    }
+
+    /// The index of a word in the table.
+    fn index(&self, word: WordName) -> usize
+        requires { IsWord (geometry_of self.now) word }
+        ensures same { result ≡ index_of (geometry_of self.now) word }
+        ensures inside { result < self.now.table.shared.table_id.words }
+    {
+        let arenas = self.geometry.arenas;
+        let index = match word {
+            WordName::Arena(arena) => arena,
+            WordName::State(header) => arenas + 4 * header,
+            WordName::KeyOf(header) => arenas + 4 * header + 1,
+            WordName::Touches(header) => arenas + 4 * header + 2,
+            WordName::Last(header) => arenas + 4 * header + 3,
+            WordName::Clock => arenas + 4 * (8 * self.geometry.sets),
+        };
+        index as usize
+    }
+
+    fn load<C: Change>(&self, seat: &mut Sitting, word: WordName) -> u64
+        requires seat { IsSeatAt (table_of self.now) (geometry_of self.now) seat.old }
+        requires word { IsWord (geometry_of self.now) word }
+        requires change { C.change ≡ learnt word }
+        ensures seat { IsStill (table_of self.now) (geometry_of self.now) seat.old seat.new }
+        ensures told { Told (view seat.old) (index_of (geometry_of self.now) word) result }
+        ensures view { view seat.new ≡ looked (geometry_of self.now) word result (view seat.old) }
+    {
+        pool_model::laws::every_run_is_lawful();
+        self.table.shared.load::<Loads<C>>(seat, self.index(word))
+    }
+
+    /// Loads a word.
+    pub fn look(&self, seat: &mut Sitting, word: WordName) -> u64
+        requires seat { IsSeatAt (table_of self.now) (geometry_of self.now) seat.old }
+        requires word { IsWord (geometry_of self.now) word }
+        ensures seat { IsStill (table_of self.now) (geometry_of self.now) seat.old seat.new }
+        ensures told { Told (view seat.old) (index_of (geometry_of self.now) word) result }
+        ensures view { view seat.new ≡ looked (geometry_of self.now) word result (view seat.old) }
+    {
+        self.load::<Brand>(seat, word)
+    }
+
+    fn exchange<C: Change>(&self, seat: &mut Sitting, block: Block, seen: u64) -> u64
+        requires seat { IsSeatAt (table_of self.now) (geometry_of self.now) seat.old }
+        requires block { IsBlock 6 (places_of (geometry_of self.now)) block }
+        requires clear { IsClear seen (block.place % 64) block.order }
+        requires change { C.change ≡ (λ _ v. taking seat.old.id block v) }
+        ensures seat { IsStill (table_of self.now) (geometry_of self.now) seat.old seat.new }
+        ensures told { Told (view seat.old) (block.place / 64) result }
+        ensures took { result ≡ seen → view seat.new ≡ took seat.old.id block seen (view seat.old) }
+        ensures missed { result ≢ seen → view seat.new ≡ missed (block.place / 64) result (view seat.old) }
+    {
+        buddy_arena::laws::block_in_arena();
+        buddy_arena::laws::covers_in_arena();
+        buddy_arena::laws::setting_takes();
+        let bits = mask(block.place % 64, block.order);
+        let arena = (block.place / 64) as usize;
+        self.table
+            .shared
+            .compare_exchange::<Exchanges<C>>(seat, arena, seen, seen | bits)
+    }
+
+    /// Takes a block: one exchange of its arena's word, from the word that is expected to the one with the block's bits
+    /// set besides.
+    ///
+    /// The block is clear in the expected word. `LostGrant` comes only where the exchange found another word, and then
+    /// the pool is as it was.
+    pub fn take_block(
+        &self,
+        seat: &mut Sitting,
+        block: Block,
+        seen: u64,
+    ) -> Result<(), LostGrant>
+        requires seat { IsSeatAt (table_of self.now) (geometry_of self.now) seat.old }
+        requires block { IsBlock 6 (places_of (geometry_of self.now)) block }
+        requires clear { IsClear seen (block.place % 64) block.order }
+        ensures seat { IsStill (table_of self.now) (geometry_of self.now) seat.old seat.new }
+        ensures ok { OnOk result (Told (view seat.old) (block.place / 64) seen × (view seat.new ≡ took seat.old.id block seen (view seat.old))) }
+        ensures err { IfErr result (λ e. (e.saw ≢ seen) × Told (view seat.old) (block.place / 64) e.saw × (view seat.new ≡ missed (block.place / 64) e.saw (view seat.old))) }
+    {
+        let saw = self.exchange::<Brand>(seat, block, seen);
+        if saw == seen {
+            Ok(())
+        } else {
+            Err(LostGrant { saw })
+        }
+    }
+
+    fn mask_out<C: Change>(&self, seat: &mut Sitting, block: Block) -> u64
+        requires seat { IsSeatAt (table_of self.now) (geometry_of self.now) seat.old }
+        requires block { IsBlock 6 (places_of (geometry_of self.now)) block }
+        requires granted { granted_at (view seat.old) block.place ≡ Some block.order }
+        requires change { C.change ≡ (λ _ v. giving seat.old.id block v) }
+        ensures seat { IsStill (table_of self.now) (geometry_of self.now) seat.old seat.new }
+        ensures told { Told (view seat.old) (block.place / 64) result }
+        ensures view { view seat.new ≡ gave seat.old.id block result (view seat.old) }
+    {
+        buddy_arena::laws::block_in_arena();
+        buddy_arena::laws::covers_in_arena();
+        buddy_arena::laws::clearing_gives();
+        let bits = mask(block.place % 64, block.order);
+        let arena = (block.place / 64) as usize;
+        self.table.shared.fetch_and::<Masks<C>>(seat, arena, !bits)
+    }
+
+    /// Gives a granted block back: one fetch_and clears its bits. Gives the word that it found.
+    pub fn give_block(&self, seat: &mut Sitting, block: Block) -> u64
+        requires seat { IsSeatAt (table_of self.now) (geometry_of self.now) seat.old }
+        requires block { IsBlock 6 (places_of (geometry_of self.now)) block }
+        requires granted { granted_at (view seat.old) block.place ≡ Some block.order }
+        ensures seat { IsStill (table_of self.now) (geometry_of self.now) seat.old seat.new }
+        ensures told { Told (view seat.old) (block.place / 64) result }
+        ensures view { view seat.new ≡ gave seat.old.id block result (view seat.old) }
+    {
+        self.mask_out::<Brand>(seat, block)
+    }
+
+    fn part<C: Count>(&self, seat: &mut Sitting, numbers: u32) -> Sitting
+        requires seat { IsSeatAt (table_of self.now) (geometry_of self.now) seat.old }
+        requires numbers { (0 < numbers) × (numbers < length (view seat.old).numbers) }
+        requires count { C.count ≡ numbers }
+        ensures seat { IsStill (table_of self.now) (geometry_of self.now) seat.old seat.new }
+        ensures new { IsSeatAt (table_of self.now) (geometry_of self.now) result }
+        ensures view { view seat.new ≡ parted numbers (view seat.old) }
+        ensures part { view result ≡ part_of numbers (view seat.old) }
+    {
+        let _count = numbers;
+        self.table.shared.split_seat::<Parts<C>>(seat)
+    }
+
+    /// Parts a seat: the new one has its last numbers, so many of them, and nothing else.
+    pub fn split(&self, seat: &mut Sitting, numbers: u32) -> Sitting
+        requires seat { IsSeatAt (table_of self.now) (geometry_of self.now) seat.old }
+        requires numbers { (0 < numbers) × (numbers < length (view seat.old).numbers) }
+        ensures seat { IsStill (table_of self.now) (geometry_of self.now) seat.old seat.new }
+        ensures new { IsSeatAt (table_of self.now) (geometry_of self.now) result }
+        ensures view { view seat.new ≡ parted numbers (view seat.old) }
+        ensures part { view result ≡ part_of numbers (view seat.old) }
+    {
+        self.part::<Brand>(seat, numbers)
+    }
+
+    /// Joins a seat that has nothing of any header and no block to another, which gets its numbers back.
+    pub fn join(&self, seat: &mut Sitting, other: Sitting)
+        requires seat { IsSeatAt (table_of self.now) (geometry_of self.now) seat.old }
+        requires other { IsSeatAt (table_of self.now) (geometry_of self.now) other }
+        requires nothing { HasNothing (view other) }
+        ensures seat { IsStill (table_of self.now) (geometry_of self.now) seat.old seat.new }
+        ensures view { view seat.new ≡ joined (view seat.old) (view other) }
+    {
+        self.table.shared.join_seat::<Joins>(seat, other)
+    }
+}
