@@ -34,6 +34,13 @@ pub record KeepsOthers (place : ℕ) (step : Step) (old new : View) : Type 0 whe
   pub others : (p : ℕ) → p ≢ place → granted_at new p ≡ granted_at old p
   pub steps : new.steps ≡ old.steps ++ step ∷ []
 
+-- the steps of the pool that a grant and its return are
+abbrev pub grant_step : ℕ → Block → Step
+grant_step seat b = Grant seat b
+
+abbrev pub ungrant_step : ℕ → Block → Step
+ungrant_step seat b = Ungrant seat b
+
 -- a load of a word that was found so
 abbrev pub load_of : ℕ → ℕ → Event
 load_of word found = Stepped word found found Loaded

@@ -6,14 +6,15 @@ use Rattle.pool_rule.specs.declared.geometry.Geometry.{Geometry}
 use Rattle.pool_rule.specs.declared.view.View.{View}
 use Rattle.pool_rule.specs.Layout.{IsGeometry, AreSeats, places_of}
 use Rattle.pool_rule.specs.Tables.{geometry_of, table_of}
+use Rattle.pool_rule.specs.Words.{IsSeatAt}
 use Rattle.buffer_pool.specs.declared.token.Grant.{Grant}
 use Rattle.buffer_pool.specs.declared.pool.Pool.{Pool}
 use Rattle.buffer_pool.specs.declared.seat.PoolSeat.{PoolSeat}
 
 -- the sizes and the number of seats that `create` takes
 pub record IsInRange (g : Geometry) (seats : ℕ) : Type 0 where
-  pub geometry : IsGeometry g
-  pub seats : AreSeats seats
+  pub sizes : IsGeometry g
+  pub numbers : AreSeats seats
 
 -- the sizes that a pool was made with
 abbrev pub sizes_of : {W : Type 0} → Pool W → Geometry
@@ -27,9 +28,9 @@ view seat = seat.seat.me.0
 abbrev pub seat_id : {W : Type 0} → PoolSeat W → ℕ
 seat_id seat = seat.seat.id
 
--- the seat is one of the pool's
+-- The seat is one of the pool's: of its table and its sizes, with at least one number.
 abbrev pub IsSeatOf : {W : Type 0} → Pool W → PoolSeat W → Type 0
-IsSeatOf pool seat = seat.seat.table_id ≡ table_of pool.words
+IsSeatOf pool seat = IsSeatAt (table_of pool.words) (geometry_of pool.words) seat.seat
 
 -- it is the same seat of the pool, after a call
 pub record IsSameSeat {W : Type 0} (pool : Pool W) (old new : PoolSeat W) : Type 0 where

@@ -3,13 +3,12 @@
 ghost use Rattle.std.specs.Prelude.{◌≡◌, ◌≢◌, ℕ, ◌+◌, ◌%◌, ◌/◌, ◌^◌, ◌<◌, [], ◌∷◌, ◌++◌, length, Some, None, IfOk, IfErr, OnOk, MatchResult, bit_and, bit_or};
 ghost use Rattle.std.specs.Int.{w64, bit_not};
 ghost use Rattle.buddy_arena.specs.Block.{IsClear};
-ghost use Rattle.pool_model.specs.declared.step.Step as step;
 ghost use Rattle.pool_rule.specs.declared.view.Event.TheVariants.{Parted, Joined};
 ghost use Rattle.pool_rule.specs.Layout.{IsWord, index_of};
 ghost use Rattle.pool_rule.specs.Seats.{HasNothing, Told, granted_at, joined, parted, part_of};
 ghost use Rattle.pool_rule.specs.Words.{looked, took, gave, missed, mask_of};
 ghost use Rattle.buffer_pool.specs.Pools.{view, seat_id, sizes_of, block_of, block_at, IsSeatOf, IsSameSeat, IsBlockOf};
-ghost use Rattle.buffer_pool.specs.Calls.{Steps, KeepsAll, KeepsOthers, load_of, exchange_of, miss_of, mask_out_of};
+ghost use Rattle.buffer_pool.specs.Calls.{Steps, KeepsAll, KeepsOthers, grant_step, ungrant_step, load_of, exchange_of, miss_of, mask_out_of};
 
 use crate::{Grant, LostGrant, Pool, PoolSeat, WordName};
 use outside::World;
@@ -49,7 +48,7 @@ pub fn grant<W: World>(
     ensures token { IfOk result (λ g. (block_of g ≡ block_at place order) × (granted_at (view seat.new) place ≡ Some order)) }
     ensures ok { OnOk result (view seat.new ≡ took (seat_id seat.old) (block_at place order) seen (view seat.old)) }
     ensures ok_step { OnOk result (Steps (place / 64) seen (bit_or seen (mask_of (block_at place order))) (exchange_of (block_at place order) seen) (view seat.old) (view seat.new)) }
-    ensures ok_others { OnOk result (KeepsOthers place (step.TheVariants.Grant (seat_id seat.old) (block_at place order)) (view seat.old) (view seat.new)) }
+    ensures ok_others { OnOk result (KeepsOthers place (grant_step (seat_id seat.old) (block_at place order)) (view seat.old) (view seat.new)) }
     ensures err { IfErr result (λ e. (e.saw ≢ seen) × (view seat.new ≡ missed (place / 64) e.saw (view seat.old))) }
     ensures err_step { IfErr result (λ e. Steps (place / 64) e.saw e.saw (miss_of (block_at place order) e.saw) (view seat.old) (view seat.new)) }
     ensures err_all { IfErr result (λ e. KeepsAll (view seat.old) (view seat.new)) }
@@ -69,7 +68,7 @@ pub fn ungrant<W: World>(pool: &Pool<W>, seat: &mut PoolSeat<W>, grant: Grant)
     ensures seat { IsSameSeat pool.now seat.old seat.new }
     ensures gone { granted_at (view seat.new) (block_of grant).place ≡ None }
     ensures step { (found : ℕ) × (found < 2 ^ 64) × (view seat.new ≡ gave (seat_id seat.old) (block_of grant) found (view seat.old)) × Steps ((block_of grant).place / 64) found (bit_and found (bit_not w64 (mask_of (block_of grant)))) (mask_out_of (block_of grant) found) (view seat.old) (view seat.new) }
-    ensures others { KeepsOthers (block_of grant).place (step.TheVariants.Ungrant (seat_id seat.old) (block_of grant)) (view seat.old) (view seat.new) }
+    ensures others { KeepsOthers (block_of grant).place (ungrant_step (seat_id seat.old) (block_of grant)) (view seat.old) (view seat.new) }
 {
     let Grant { block } = grant;
     pool.words.give_block(&mut seat.seat, block);
@@ -111,6 +110,9 @@ pub fn join<W: World>(pool: &Pool<W>, seat: &mut PoolSeat<W>, other: PoolSeat<W>
     ensures trail { (view seat.new).trail ≡ (view seat.old).trail ++ Joined ∷ [] }
     ensures keeps { KeepsAll (view seat.old) (view seat.new) }
 {
-    let PoolSeat { seat: spent, world: _ } = other;
+    let PoolSeat {
+        seat: spent,
+        world: _,
+    } = other;
     pool.words.join(&mut seat.seat, spent);
 }

@@ -11,9 +11,9 @@ mod fault;
 pub mod laws;
 mod pool;
 mod seat;
-mod token;
 #[cfg(test)]
 mod tests;
+mod token;
 
 pub use calls::{grant, join, look, split, ungrant};
 pub use fault::OpenFault;

@@ -1,17 +1,14 @@
-ghost use Rattle.std.specs.Prelude.{◌≡◌, ◌<◌, [], length};
 ghost use Rattle.buffer_pool.specs.Bids.{HasNoBid};
 
 use pool_rule::Sitting;
 use std::marker::PhantomData;
 
-/// A seat at a pool: what one thread works on the pool with. It has at least one of the pool's numbers.
+/// A seat at a pool: what one thread works on the pool with.
 ///
 /// Contracts see its view: what it knows and has. Between two calls it has no bid, a count that holds nothing.
 #[derive(Drop)]
 pub struct PoolSeat<W> {
     pub(crate) seat: Sitting,
     pub(crate) world: PhantomData<W>,
-    pub ghost numbers: { 0 < length seat.me.0.numbers },
-    pub ghost no_slot: { seat.me.1 ≡ [] },
     pub ghost no_bid: { HasNoBid seat.me.0 },
 }

@@ -41,8 +41,7 @@ module _ {S : Type 0} (files : Option Files) (setup : Setup) (slots id : ℕ) (m
   pub load_allowed : (word : WordName) → IsWord setup.geometry word → EveryRunIsLawful → Allows (IsKept files setup) slots id me (index_of setup.geometry word) (λ n. n) (loads (learnt word) (step slots (index_of setup.geometry word) 0 0 none) me)
   load_allowed word inside law s kept _ at _ =
       let i = index_of setup.geometry word in
-      let n : ℕ = get_or s.words i 0 in
-      (
+      let n : ℕ = get_or s.words i 0 in (
         noted i n n Loaded (learnt word n me.0),
         keeps,
         tt,
@@ -76,8 +75,7 @@ module _ {S : Type 0} (files : Option Files) (setup : Setup) (slots id : ℕ) (m
     give_allowed clears has mask_fits s kept _ at fits =
         let i : ℕ = b.place / 64 in
         let n : ℕ = get_or s.words i 0 in
-        let h = kept.1.1 in
-        (
+        let h = kept.1.1 in (
           noted i n (bit_and n (bit_not w64 mask)) Changed (with_step (Ungrant id b) (with_granted b.place None me.0)),
           keeps,
           tt,

@@ -113,10 +113,10 @@ module _ (files : Option Files) (setup : Setup) (words : List ℕ) (views : List
       stands_after files setup words views log pool h id v at live i n w like knows (s ∷ []) steps one (λ z apart. theirs s z (λ e. apart (e ∙ by))) (record pool { grants = set pool.grants place o })
       (subst P is_after (story_more files setup.geometry (length views) log pool s h.story needs seats same_buffers same_places))
       (λ header there.
-          header_stays files setup words views log pool h id v at live i n w like knows (s ∷ []) steps one (λ z apart. theirs s z (λ e. apart (e ∙ by))) header there (ap (λ l. get_or l header clear_mark) marks)
-          (get_or-set_other words i (header_word setup.geometry header) n 0 (λ e. omega (arith, e, arena)))
-          (get_or-set_other words i (header_word setup.geometry header + 1) n 0 (λ e. omega (arith, e, arena)))
-          (λ j. get_or-set_other words i (cell_word setup.geometry j) n 0 (λ e. omega (arith, e, arena))))
+      header_stays files setup words views log pool h id v at live i n w like knows (s ∷ []) steps one (λ z apart. theirs s z (λ e. apart (e ∙ by))) header there (ap (λ l. get_or l header clear_mark) marks)
+      (get_or-set_other words i (header_word setup.geometry header) n 0 (λ e. omega (arith, e, arena)))
+      (get_or-set_other words i (header_word setup.geometry header + 1) n 0 (λ e. omega (arith, e, arena)))
+      (λ j. get_or-set_other words i (cell_word setup.geometry j) n 0 (λ e. omega (arith, e, arena))))
       (grants_change w place k o granted inside is_own no_other had_no_other)
       bits
 
@@ -142,17 +142,21 @@ module _ (files : Option Files) (setup : Setup) (words : List ℕ) (views : List
         let long : b.place < length pool.grants = rw h.story.places inside in
         let wide : i < length words = omega (arith, h.all_words, inside) in
         let none = no_grant pool b.place long (is_free b.place (omega arith, omega (arith, pow_pos b.order))) in
-        let fits : IsBlock 6 (length pool.grants) b = rw h.story.places is_block in
-        (log ++ Grant id b ∷ [], (record pool { grants = set pool.grants b.place (Some g) },
-        arena_step new w b.place (Some b.order) (Some g) (Grant id b)
-        (record { numbers = refl; geometry = refl; marks = refl; granted = length-set v.granted b.place (Some b.order) }) refl refl refl refl refl inside
-        (fits, is_free) refl (own_mine id b.order) (λ seat apart. own_other seat id b.order apart) (λ seat apart. ap (own_grant seat) none)
-        (λ m there.
-            let bit = bits_set in_arenas sets (places_of setup.geometry) b is_block words mask wide is_mask clear m in
-            let was = h.bits m there in
-            let count = owners_change pool b.place (Some g) m long in
-            let gone : grant_covers m b.place (grant_at pool b.place) ≡ 0 = ap (grant_covers m b.place) none in
-            omega (arith, bit, was, count, gone))))
+        let fits : IsBlock 6 (length pool.grants) b = rw h.story.places is_block in (
+          log ++ Grant id b ∷ [],
+          (
+            record pool { grants = set pool.grants b.place (Some g) },
+            arena_step new w b.place (Some b.order) (Some g) (Grant id b)
+                (record { numbers = refl; geometry = refl; marks = refl; granted = length-set v.granted b.place (Some b.order) }) refl refl refl refl refl inside
+                (fits, is_free) refl (own_mine id b.order) (λ seat apart. own_other seat id b.order apart) (λ seat apart. ap (own_grant seat) none)
+                (λ m there.
+                let bit = bits_set in_arenas sets (places_of setup.geometry) b is_block words mask wide is_mask clear m in
+                let was = h.bits m there in
+                let count = owners_change pool b.place (Some g) m long in
+                let gone : grant_covers m b.place (grant_at pool b.place) ≡ 0 = ap (grant_covers m b.place) none in
+                omega (arith, bit, was, count, gone)),
+          ),
+        )
 
   -- ---- a block is given back
 
@@ -169,14 +173,18 @@ module _ (files : Option Files) (setup : Setup) (words : List ℕ) (views : List
         let long : b.place < length pool.grants = rw h.story.places inside in
         let wide : i < length words = omega (arith, h.all_words, inside) in
         let granted : grant_at pool b.place ≡ Some (record { order = b.order; owner = id }) =
-            own_is id (grant_at pool b.place) b.order (sym (h.grants id b.place) ∙ (ap (λ u. granted_at u b.place) is ∙ has)) in
-        (log ++ Ungrant id b ∷ [], (record pool { grants = set pool.grants b.place None },
-        arena_step new w b.place None None (Ungrant id b)
-        (record { numbers = refl; geometry = refl; marks = refl; granted = length-set v.granted b.place None }) refl refl refl refl refl inside
-        granted refl refl (λ seat apart. refl) (λ seat apart. ap (own_grant seat) granted ∙ own_other seat id b.order apart)
-        (λ m there.
-            let bit = bits_cleared in_arenas clears (places_of setup.geometry) b is_block words mask wide fits mask_fits is_mask m in
-            let was = h.bits m there in
-            let count = owners_change pool b.place None m long in
-            let had : grant_covers m b.place (grant_at pool b.place) ≡ covers (block_of b.place (record { order = b.order; owner = id })) m = ap (grant_covers m b.place) granted in
-            omega (arith, bit, was, count, had))))
+        own_is id (grant_at pool b.place) b.order (sym (h.grants id b.place) ∙ (ap (λ u. granted_at u b.place) is ∙ has)) in (
+          log ++ Ungrant id b ∷ [],
+          (
+            record pool { grants = set pool.grants b.place None },
+            arena_step new w b.place None None (Ungrant id b)
+                (record { numbers = refl; geometry = refl; marks = refl; granted = length-set v.granted b.place None }) refl refl refl refl refl inside
+                granted refl refl (λ seat apart. refl) (λ seat apart. ap (own_grant seat) granted ∙ own_other seat id b.order apart)
+                (λ m there.
+                let bit = bits_cleared in_arenas clears (places_of setup.geometry) b is_block words mask wide fits mask_fits is_mask m in
+                let was = h.bits m there in
+                let count = owners_change pool b.place None m long in
+                let had : grant_covers m b.place (grant_at pool b.place) ≡ covers (block_of b.place (record { order = b.order; owner = id })) m = ap (grant_covers m b.place) granted in
+                omega (arith, bit, was, count, had)),
+          ),
+        )

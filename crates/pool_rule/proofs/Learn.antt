@@ -128,8 +128,7 @@ module _ (law : EveryRunIsLawful) (files : Option Files) (setup : Setup) (words 
       let is = is_view files setup words views log pool h id v at live in
       let P : View → Type 0 = λ u. MarkFits id (buffer_at pool header) (mark_at u header) in
       let fits : MarkFits id (buffer_at pool header) (mark_at v header) = subst P is ((h.headers header inside).each_seat id) in
-      let key = key_of (get_or words (header_word setup.geometry header + 1) 0) in
-      (
+      let key = key_of (get_or words (header_word setup.geometry header + 1) 0) in (
         hold_learns id key (buffer_at pool header) (mark_at v header).hold fits.0 (λ b e holds. key_is b e (held_key id b.mode b.holders b.key b.done (lawful_buffer b e).holders (lawful_buffer b e).has_key holds)),
         claim_learns id key (buffer_at pool header) (mark_at v header).claim fits.1 (λ b e moves. key_is b e (moving_key b.mode b.key b.done moves (lawful_buffer b e).has_key)),
       )
@@ -142,7 +141,7 @@ module _ (law : EveryRunIsLawful) (files : Option Files) (setup : Setup) (words 
       let change = total-set (λ _ u. hold_count (mark_at u header).hold) views id w spent below_id in
       let was : hold_count (mark_at (view_at views id) header).hold ≡ hold_count (mark_at v header).hold = ap (λ u. hold_count (mark_at u header).hold) is in
       let now : hold_count (mark_at w header).hold ≡ hold_count (mark_at v header).hold =
-          ap (λ (m : Mark). hold_count m.hold) is_mark ∙ same_count (key_of (get_or words (header_word setup.geometry header + 1) 0)) (mark_at v header).hold in
+      ap (λ (m : Mark). hold_count m.hold) is_mark ∙ same_count (key_of (get_or words (header_word setup.geometry header + 1) 0)) (mark_at v header).hold in
       let count : count_of header (set views id w) ≡ count_of header views = omega (arith, change, was, now) in
       record {
         state_is = old.state_is ∙ ap (λ n. state_of n (buffer_at pool header)) (sym count);
@@ -167,16 +166,20 @@ module _ (law : EveryRunIsLawful) (files : Option Files) (setup : Setup) (words 
       let i = header_word setup.geometry header + 1 in
       let n = get_or words i 0 in
       let w = noted i n n Loaded (with_key header n v) in
-      let long : header < length v.marks = rw ((own files setup words views log pool h id v at live).marks live) inside in
-      (log ++ [], (pool,
-      quiet files setup words views log pool h id v at live i n w refl
-      (record { numbers = refl; geometry = refl; marks = length-set v.marks header (mark_with_key (key_of n) (mark_at v header)); granted = refl }) refl refl
-      (λ other there.
-          elim (cases_eq other header) [
-            | inl same ↦
-                let P : ℕ → Type 0 = λ k. StandsForBuffer setup.geometry words (set views id w) pool k in
-                subst P (sym same) (learnt_header w (get_or-set_same v.marks header (mark_with_key (key_of n) (mark_at v header)) clear_mark long))
-            | inr apart ↦
-                header_seen files setup words views log pool h id v at live w other there (get_or-set_other v.marks header other (mark_with_key (key_of n) (mark_at v header)) clear_mark apart)
-          ])
-      (λ place. refl)))
+      let long : header < length v.marks = rw ((own files setup words views log pool h id v at live).marks live) inside in (
+        log ++ [],
+        (
+          pool,
+          quiet files setup words views log pool h id v at live i n w refl
+              (record { numbers = refl; geometry = refl; marks = length-set v.marks header (mark_with_key (key_of n) (mark_at v header)); granted = refl }) refl refl
+              (λ other there.
+              elim (cases_eq other header) [
+                | inl same ↦
+                    let P : ℕ → Type 0 = λ k. StandsForBuffer setup.geometry words (set views id w) pool k in
+                    subst P (sym same) (learnt_header w (get_or-set_same v.marks header (mark_with_key (key_of n) (mark_at v header)) clear_mark long))
+                | inr apart ↦
+                    header_seen files setup words views log pool h id v at live w other there (get_or-set_other v.marks header other (mark_with_key (key_of n) (mark_at v header)) clear_mark apart)
+              ])
+              (λ place. refl),
+        ),
+      )

@@ -182,27 +182,32 @@ module _ (files : Option Files) (setup : Setup) (seats : 0 < setup.seats) where
 
   pub opens : IsKept files setup {S = Unit {0}} (record { words = first_words g; homes = []; views = first_view setup ∷ [] })
   opens =
-      let numbers_count = length-numbers 0 setup.seats in
-      ([], (first_pool g, record {
-        story = record {
-          steps = tt;
-          leads = refl;
-          headers = length-replicate (headers_of g) None;
-          places = length-replicate (places_of g) None;
-          others = λ seat past. refl;
-        };
-        all_words = length-first g;
-        numbers = record {
-          once = λ n. let e = number_once setup.seats n in e0 (has_number n (first_view setup)) ∙ e;
-          all = e0 (length (numbers_from 0 setup.seats)) ∙ numbers_count;
-        };
-        seats = each_seat;
-        headers = first_header;
-        grants = λ seat place. none_granted seat place ∙ sym (ap (own_grant seat) (none_at (places_of g) place));
-        bits = λ m inside.
-            let i : m / 64 < g.arenas = omega (arith, inside) in
-            ap (λ w. bit_at w (m % 64)) (arena_at g (m / 64) i) ∙ (bit_at-zero (m % 64) ∙ sym (nobody g m));
-      }))
+      let numbers_count = length-numbers 0 setup.seats in (
+        [],
+        (
+          first_pool g,
+          record {
+            story = record {
+              steps = tt;
+              leads = refl;
+              headers = length-replicate (headers_of g) None;
+              places = length-replicate (places_of g) None;
+              others = λ seat past. refl;
+            };
+            all_words = length-first g;
+            numbers = record {
+              once = λ n. let e = number_once setup.seats n in e0 (has_number n (first_view setup)) ∙ e;
+              all = e0 (length (numbers_from 0 setup.seats)) ∙ numbers_count;
+            };
+            seats = each_seat;
+            headers = first_header;
+            grants = λ seat place. none_granted seat place ∙ sym (ap (own_grant seat) (none_at (places_of g) place));
+            bits = λ m inside.
+                let i : m / 64 < g.arenas = omega (arith, inside) in
+                ap (λ w. bit_at w (m % 64)) (arena_at g (m / 64) i) ∙ (bit_at-zero (m % 64) ∙ sym (nobody g m));
+          },
+        ),
+      )
     where
       e0 : (n : ℕ) → n + 0 ≡ n
       e0 n = omega arith

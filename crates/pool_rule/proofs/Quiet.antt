@@ -61,9 +61,13 @@ module _ (files : Option Files) (setup : Setup) (words : List ℕ) (views : List
   -- a step that changes nothing but trail and known words
   pub notes : (i : ℕ) (deed : Deed) → IsKept files setup {S = Unit {0}} (record { words = set words i (get_or words i 0); homes = []; views = set views id (noted i (get_or words i 0) (get_or words i 0) deed v) })
   unfolding noted
-  notes i deed =
-      (log ++ [], (pool,
+  notes i deed = (
+    log ++ [],
+    (
+      pool,
       quiet i (get_or words i 0) (noted i (get_or words i 0) (get_or words i 0) deed v) refl
-      (record { numbers = refl; geometry = refl; marks = refl; granted = refl }) refl refl
-      (λ header inside. header_seen (noted i (get_or words i 0) (get_or words i 0) deed v) header inside refl)
-      (λ place. refl)))
+          (record { numbers = refl; geometry = refl; marks = refl; granted = refl }) refl refl
+          (λ header inside. header_seen (noted i (get_or words i 0) (get_or words i 0) deed v) header inside refl)
+          (λ place. refl),
+    ),
+  )

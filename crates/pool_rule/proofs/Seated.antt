@@ -190,12 +190,16 @@ module _ (files : Option Files) (setup : Setup) (words : List ℕ) (views : List
       pub parts : IsKept files setup {S = Unit {0}} (record { words = words; homes = []; views = set views id (parted count v) ++ part_of count v ∷ [] })
       unfolding parted part_of
       parts =
-          let nothing = fresh_has_nothing v.geometry (drop (length v.numbers - count) v.numbers) in
-          (log, (pool,
-          stands_again seats_then (omega (arith, length_push (set views id (parted count v)) (part_of count v), length-set views id (parted count v))) numbers_parted seats_parted
-          (λ seat header. each_as (λ u. mark_at u header) refl (nothing.marks header) seat)
-          (λ header. total_as (λ u. hold_count (mark_at u header).hold) (let e : hold_count (mark_at (part_of count v) header).hold ≡ 0 = ap (λ (m : Mark). hold_count m.hold) (nothing.marks header) in omega (arith, e)))
-          (λ seat place. each_as (λ u. granted_at u place) refl (nothing.granted place) seat)))
+          let nothing = fresh_has_nothing v.geometry (drop (length v.numbers - count) v.numbers) in (
+            log,
+            (
+              pool,
+              stands_again seats_then (omega (arith, length_push (set views id (parted count v)) (part_of count v), length-set views id (parted count v))) numbers_parted seats_parted
+                  (λ seat header. each_as (λ u. mark_at u header) refl (nothing.marks header) seat)
+                  (λ header. total_as (λ u. hold_count (mark_at u header).hold) (let e : hold_count (mark_at (part_of count v) header).hold ≡ 0 = ap (λ (m : Mark). hold_count m.hold) (nothing.marks header) in omega (arith, e)))
+                  (λ seat place. each_as (λ u. granted_at u place) refl (nothing.granted place) seat),
+            ),
+          )
 
     -- ---- a seat takes in another, which has nothing
 
@@ -285,9 +289,13 @@ module _ (files : Option Files) (setup : Setup) (words : List ℕ) (views : List
 
       pub joins : IsKept files setup {S = Unit {0}} (record { words = words; homes = []; views = set (set views id (joined v w)) other spent })
       unfolding joined
-      joins =
-          (log, (pool,
+      joins = (
+        log,
+        (
+          pool,
           stands_again seats_now (omega (arith, length-set (set views id (joined v w)) other spent, length-set views id (joined v w))) numbers_joined seats_joined
-          (λ seat header. each_still (λ u. mark_at u header) refl (sym (nothing.marks header)) seat)
-          (λ header. total_still (λ u. hold_count (mark_at u header).hold) (let e : hold_count (mark_at w header).hold ≡ 0 = ap (λ (m : Mark). hold_count m.hold) (nothing.marks header) in omega (arith, e)) refl)
-          (λ seat place. each_still (λ u. granted_at u place) refl (sym (nothing.granted place)) seat)))
+              (λ seat header. each_still (λ u. mark_at u header) refl (sym (nothing.marks header)) seat)
+              (λ header. total_still (λ u. hold_count (mark_at u header).hold) (let e : hold_count (mark_at w header).hold ≡ 0 = ap (λ (m : Mark). hold_count m.hold) (nothing.marks header) in omega (arith, e)) refl)
+              (λ seat place. each_still (λ u. granted_at u place) refl (sym (nothing.granted place)) seat),
+        ),
+      )

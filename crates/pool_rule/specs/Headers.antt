@@ -87,8 +87,8 @@ ClaimFits seat buffer (Gone block) =
     IsSomeAnd buffer (λ (b : Buffer). (b.mode ≡ mode.Evicted) × (b.claimant ≡ Some seat) × (b.block ≡ block))
 ClaimFits seat buffer (Carried block target key done next) =
     IsSomeAnd buffer (λ (b : Buffer). (b.mode ≡ mode.Moving) × (b.claimant ≡ Some seat) × (b.block ≡ block)
-        × IsSomeAnd b.target (λ (t : Target). t.block ≡ target) × IsKnown key b.key × (b.done ≡ done)
-        × IfSome next (λ x. slice_index b.cells done ≡ x))
+    × IsSomeAnd b.target (λ (t : Target). t.block ≡ target) × IsKnown key b.key × (b.done ≡ done)
+    × IfSome next (λ x. slice_index b.cells done ≡ x))
 
 abbrev pub MarkFits : ℕ → Option Buffer → Mark → Type 0
 MarkFits seat buffer m = HoldFits seat buffer m.hold × ClaimFits seat buffer m.claim

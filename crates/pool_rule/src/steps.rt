@@ -24,10 +24,7 @@ impl<W: World> Words<W> {
     /// seat has all numbers.
     ///
     /// `AllocError` comes for want of memory alone.
-    pub fn open(
-        alloc: Global,
-        setup: Setup,
-    ) -> Result<(Words<W>, Sitting), AllocError>
+    pub fn open(alloc: Global, setup: Setup) -> Result<(Words<W>, Sitting), AllocError>
         requires geometry { IsGeometry setup.geometry }
         requires seats { AreSeats setup.seats }
         ensures { IfOk result (λ r. (geometry_of r.0 ≡ setup.geometry) × IsSeatAt (table_of r.0) (geometry_of r.0) r.1 × (r.1.id ≡ 0) × (view r.1 ≡ first_view setup)) }
@@ -115,12 +112,7 @@ impl<W: World> Words<W> {
     ///
     /// The block is clear in the expected word. `LostGrant` comes only where the exchange found another word, and then
     /// the pool is as it was.
-    pub fn take_block(
-        &self,
-        seat: &mut Sitting,
-        block: Block,
-        seen: u64,
-    ) -> Result<(), LostGrant>
+    pub fn take_block(&self, seat: &mut Sitting, block: Block, seen: u64) -> Result<(), LostGrant>
         requires seat { IsSeatAt (table_of self.now) (geometry_of self.now) seat.old }
         requires block { IsBlock 6 (places_of (geometry_of self.now)) block }
         requires clear { IsClear seen (block.place % 64) block.order }

@@ -28,8 +28,7 @@ compare_exchange-requires g c =
     let told : shared.key.geometry ≡ c.args.self.now.geometry = c.args.self.now.told in
     let B : Geometry → Type 0 = λ x. IsBlock 6 (places_of x) b in
     let P : (ℕ → View → View) → Type 0 = λ f. Allows (IsKept g.W.World.files shared.key) shared.table_id.slots seat.id seat.me (b.place / 64) (λ n. either (n == seen) (bit_or seen bits) n) (exchanges f (step shared.table_id.slots (b.place / 64) seen (bit_or seen bits) none) seat.me) in
-    let below = place_below (places_of c.args.self.now.geometry) b c.requires.block.inside in
-    (
+    let below = place_below (places_of c.args.self.now.geometry) b c.requires.block.inside in (
       c.requires.seat.table_is,
       omega (arith, c.args.self.now.all_words, below),
       subst P (sym c.requires.change) (take_allowed g.W.World.files shared.key shared.table_id.slots seat.id seat.me c.requires.seat.live.numbers c.covers_in_arena.ensures b (subst B (sym told) c.requires.block) bits c.mask-bits.ensures.mask c.setting_takes.ensures seen c.requires.clear),

@@ -8,8 +8,7 @@ use Rattle.pool_rule.proofs.words.Words.join.Goals as goal
 pub join_seat-requires : goal.join_seat-requires
 join_seat-requires g c =
     let shared = c.args.self.now.table.shared in
-    let seat = c.args.seat.now in
-    (
+    let seat = c.args.seat.now in (
       c.requires.seat.table_is,
       c.requires.other.table_is,
       c.requires.other.no_slot,

@@ -22,8 +22,7 @@ load-requires g c =
     let I : Geometry → Type 0 = λ x. IsWord x word in
     let P : ℕ × (ℕ → View → View) → Type 0 = λ z. Allows (IsKept g.W.World.files shared.key) shared.table_id.slots seat.id seat.me z.0 (λ n. n) (loads z.1 (step shared.table_id.slots z.0 0 0 none) seat.me) in
     let at : index_of shared.key.geometry word ≡ c.index.result = ap (λ x. index_of x word) told ∙ sym c.index.ensures.same in
-    let change : learnt word ≡ g.C.Change.change = sym c.requires.change in
-    (
+    let change : learnt word ≡ g.C.Change.change = sym c.requires.change in (
       c.requires.seat.table_is,
       c.index.ensures.inside,
       subst P (λ i. (at i, change i)) (load_allowed g.W.World.files shared.key shared.table_id.slots seat.id seat.me c.requires.seat.live.numbers word (subst I (sym told) c.requires.word) c.every_run_is_lawful.ensures),

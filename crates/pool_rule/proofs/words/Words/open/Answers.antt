@@ -29,8 +29,7 @@ pub returns : goal.returns
 returns g c =
     let setup = c.args.setup in
     let P : View → Type 0 = λ v. IsLive setup.geometry v in
-    let is : c.in_ok-table.seat.me.0 ≡ first_view setup = ap (λ m. m.0) c.in_ok-table.ensures.4 in
-    (
+    let is : c.in_ok-table.seat.me.0 ≡ first_view setup = ap (λ m. m.0) c.in_ok-table.ensures.4 in (
       refl,
       record {
         table_is = c.in_ok-table.ensures.2;

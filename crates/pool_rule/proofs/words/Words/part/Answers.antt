@@ -13,8 +13,7 @@ pub split_seat-requires : goal.split_seat-requires
 split_seat-requires g c =
     let shared = c.args.self.now.table.shared in
     let seat = c.args.seat.now in
-    let P : ℕ → Type 0 = λ k. Splits (IsKept g.W.World.files shared.key) seat.id seat.me.0 (parted k seat.me.0) (part_of k seat.me.0) in
-    (
+    let P : ℕ → Type 0 = λ k. Splits (IsKept g.W.World.files shared.key) seat.id seat.me.0 (parted k seat.me.0) (part_of k seat.me.0) in (
       c.requires.seat.table_is,
       omega (arith, c.args.self.now.all_words),
       subst P (sym c.requires.count) (split_allowed g.W.World.files shared.key shared.table_id.slots seat.id seat.me c.requires.seat.live.numbers c.args.numbers c.requires.numbers.1 c.requires.numbers.0),
