@@ -22,7 +22,7 @@ use Rattle.pool_rule.specs.Rule.{first_view}
 use Rattle.pool_rule.specs.Seats.{HasNothing, Told, mark_at, granted_at, clear_mark, noted, with_step, with_granted, with_key, hold_with_key, mark_with_key, key_of, parted, part_of, joined, numbers_from, fresh_view}
 use Rattle.pool_rule.specs.Words.{IsLive, looked, learnt, took, gave, missed, taking, giving, mask_of}
 use Rattle.buffer_pool.specs.Bids.{HasNoBid}
-use Rattle.buffer_pool.specs.Calls.{Steps, KeepsAll, KeepsOthers, load_of, exchange_of, miss_of, mask_out_of}
+use Rattle.buffer_pool.specs.Calls.{Steps, Looks, KeepsAll, KeepsOthers, load_of, exchange_of, miss_of, mask_out_of}
 
 -- ---- no bid comes
 
@@ -127,6 +127,28 @@ module _ (g : Geometry) (word : WordName) (found : ℕ) (v : View) where
         known = ap (option_map (λ ws. set ws (index_of g word) found)) same.1;
         numbers = same.2;
       }
+
+  learnt_keeps : (w : WordName) → Looks w v (learnt w found v)
+  unfolding with_key
+  learnt_keeps (Arena i) = record { marks = refl; granted = refl; steps = refl }
+  learnt_keeps (State header) = record { marks = refl; granted = refl; steps = refl }
+  learnt_keeps (KeyOf header) =
+      record { marks = λ other apart. get_or-set_other v.marks header other (mark_with_key (key_of found) (mark_at v header)) clear_mark apart; granted = refl; steps = refl }
+  learnt_keeps (Touches header) = record { marks = refl; granted = refl; steps = refl }
+  learnt_keeps (Last header) = record { marks = refl; granted = refl; steps = refl }
+  learnt_keeps Clock = record { marks = refl; granted = refl; steps = refl }
+
+pub noted_keeps : (g : Geometry) (word : WordName) (found : ℕ) (v : View) (w : WordName) → Looks w v (learnt w found v) → Looks w v (noted (index_of g word) found found Loaded (learnt w found v))
+unfolding noted
+noted_keeps g word found v (Arena i) h = record { marks = h.marks; granted = h.granted; steps = h.steps }
+noted_keeps g word found v (State header) h = record { marks = h.marks; granted = h.granted; steps = h.steps }
+noted_keeps g word found v (KeyOf header) h = record { marks = h.marks; granted = h.granted; steps = h.steps }
+noted_keeps g word found v (Touches header) h = record { marks = h.marks; granted = h.granted; steps = h.steps }
+noted_keeps g word found v (Last header) h = record { marks = h.marks; granted = h.granted; steps = h.steps }
+noted_keeps g word found v Clock h = record { marks = h.marks; granted = h.granted; steps = h.steps }
+
+pub looked_keeps : (g : Geometry) (word : WordName) (found : ℕ) (v : View) → Looks word v (looked g word found v)
+looked_keeps g word found v = noted_keeps g word found v word (learnt_keeps g word found v word)
 
 module _ (id : ℕ) (b : Block) (found : ℕ) (v : View) where
   pub took_steps : Told v (b.place / 64) found → Steps (b.place / 64) found (bit_or found (mask_of b)) (exchange_of b found) v (took id b found v)

@@ -6,6 +6,7 @@ use Rattle.pool_model.specs.declared.step.Step.{Step}
 use Rattle.pool_model.specs.declared.step.Step.TheVariants.{Grant, Ungrant}
 use Rattle.pool_rule.specs.declared.geometry.Geometry.{Geometry}
 use Rattle.pool_rule.specs.declared.geometry.WordName.{WordName}
+use Rattle.pool_rule.specs.declared.geometry.WordName.TheVariants.{Arena, State, KeyOf, Touches, Last, Clock}
 use Rattle.pool_rule.specs.declared.view.Deed.TheVariants.{Loaded, Exchanged, Failed, Changed}
 use Rattle.pool_rule.specs.declared.view.Event.{Event}
 use Rattle.pool_rule.specs.declared.view.Event.TheVariants.{Stepped, Parted, Joined}
@@ -25,6 +26,21 @@ pub record Steps (word found left : ℕ) (event : Event) (old new : View) : Type
 -- the seat has what it had of each header, and the same blocks, and made no step of the pool
 pub record KeepsAll (old new : View) : Type 0 where
   pub marks : new.marks ≡ old.marks
+  pub granted : new.granted ≡ old.granted
+  pub steps : new.steps ≡ old.steps
+
+-- the seat has what it had of each header; after a load of a header's key word, of each other header
+abbrev pub KeepsMarks : WordName → View → View → Type 0
+KeepsMarks (Arena i) old new = new.marks ≡ old.marks
+KeepsMarks (State header) old new = new.marks ≡ old.marks
+KeepsMarks (KeyOf header) old new = (other : ℕ) → other ≢ header → mark_at new other ≡ mark_at old other
+KeepsMarks (Touches header) old new = new.marks ≡ old.marks
+KeepsMarks (Last header) old new = new.marks ≡ old.marks
+KeepsMarks Clock old new = new.marks ≡ old.marks
+
+-- the seat looked at a word: it has the same blocks, and made no step of the pool
+pub record Looks (word : WordName) (old new : View) : Type 0 where
+  pub marks : KeepsMarks word old new
   pub granted : new.granted ≡ old.granted
   pub steps : new.steps ≡ old.steps
 

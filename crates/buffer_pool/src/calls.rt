@@ -8,7 +8,7 @@ ghost use Rattle.pool_rule.specs.Layout.{IsWord, index_of};
 ghost use Rattle.pool_rule.specs.Seats.{HasNothing, Told, granted_at, joined, parted, part_of};
 ghost use Rattle.pool_rule.specs.Words.{looked, took, gave, missed, mask_of};
 ghost use Rattle.buffer_pool.specs.Pools.{view, seat_id, sizes_of, block_of, block_at, IsSeatOf, IsSameSeat, IsBlockOf};
-ghost use Rattle.buffer_pool.specs.Calls.{Steps, KeepsAll, KeepsOthers, grant_step, ungrant_step, load_of, exchange_of, miss_of, mask_out_of};
+ghost use Rattle.buffer_pool.specs.Calls.{Steps, Looks, KeepsAll, KeepsOthers, grant_step, ungrant_step, load_of, exchange_of, miss_of, mask_out_of};
 
 use crate::{Grant, LostGrant, Pool, PoolSeat, WordName};
 use outside::World;
@@ -24,6 +24,7 @@ pub fn look<W: World>(pool: &Pool<W>, seat: &mut PoolSeat<W>, word: WordName) ->
     ensures seat { IsSameSeat pool.now seat.old seat.new }
     ensures view { view seat.new ≡ looked (sizes_of pool.now) word result (view seat.old) }
     ensures step { Steps (index_of (sizes_of pool.now) word) result result (load_of (index_of (sizes_of pool.now) word) result) (view seat.old) (view seat.new) }
+    ensures keeps { Looks word (view seat.old) (view seat.new) }
 {
     pool.words.look(&mut seat.seat, word)
 }

@@ -6,6 +6,8 @@
 #![tactic(auto)]
 
 mod calls;
+#[cfg(test)]
+mod chain;
 mod create;
 mod fault;
 pub mod laws;

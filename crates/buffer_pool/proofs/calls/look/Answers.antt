@@ -2,9 +2,9 @@ use Rattle.std.proofs.Common.{◌≡◌, ℕ, ◌/◌, ◌<◌, List, [], ◌∷
 use Rattle.pool_rule.specs.declared.view.View.{View}
 use Rattle.pool_rule.specs.Layout.{index_of}
 use Rattle.buffer_pool.specs.Bids.{HasNoBid}
-use Rattle.buffer_pool.specs.Calls.{Steps, load_of}
+use Rattle.buffer_pool.specs.Calls.{Steps, Looks, load_of}
 use Rattle.buffer_pool.specs.Pools.{view, sizes_of}
-use Rattle.buffer_pool.proofs.Views.{looked_bids, looked_steps}
+use Rattle.buffer_pool.proofs.Views.{looked_bids, looked_steps, looked_keeps}
 use Rattle.buffer_pool.proofs.calls.look.Goals as goal
 
 pub invariant_of-seat : goal.invariant_of-seat
@@ -17,3 +17,9 @@ returns-clause-step g c =
     let v = view c.args.seat.now in
     let P : View → Type 0 = λ w. Steps i c.look.result c.look.result (load_of i c.look.result) v w in
     subst P (sym c.look.ensures.view) (looked_steps (sizes_of c.args.pool.now) c.args.word c.look.result v c.look.ensures.told)
+
+pub returns-clause-keeps : goal.returns-clause-keeps
+returns-clause-keeps g c =
+    let v = view c.args.seat.now in
+    let P : View → Type 0 = λ w. Looks c.args.word v w in
+    subst P (sym c.look.ensures.view) (looked_keeps (sizes_of c.args.pool.now) c.args.word c.look.result v)
