@@ -1,19 +1,22 @@
 //! A row of calls by a seat that knows the words: what each answers is proved, and tried.
 
-ghost use Rattle.std.specs.Prelude.{◌≡◌, ◌≢◌, ◌≤◌, ◌/◌, ◌%◌, ℕ, Some, bit_or};
+ghost use Rattle.std.specs.Prelude.{◌≡◌, ◌≢◌, ◌≤◌, ◌/◌, ◌%◌, ℕ, Some, IfOk, length, bit_or};
 ghost use Rattle.buddy_arena.specs.Block.{IsClear};
-ghost use Rattle.pool_rule.specs.Seats.{granted_at};
+ghost use Rattle.pool_rule.specs.Seats.{HasNothing, granted_at};
 ghost use Rattle.pool_rule.specs.Words.{mask_of};
 ghost use Rattle.buffer_pool.specs.Callers.{KnowsWord};
 ghost use Rattle.buffer_pool.specs.Calls.{Steps, KeepsAll, KeepsOthers, grant_step, exchange_of, miss_of};
 ghost use Rattle.buffer_pool.specs.Chain.{IsWorkedTrail};
 ghost use Rattle.buffer_pool.specs.Pools.{IsSeatOf, IsSameSeat, IsBlockOf, block_at, block_of, seat_id, sizes_of, view};
 
-use crate::{Grant, Pool, PoolSeat, WordName, grant, look, ungrant};
-use outside::World;
+use crate::{Geometry, Grant, OpenFault, Pool, PoolSeat, WordName, grant, look, ungrant};
+use outside::{RealWorld, World};
+use std::alloc::Global;
+use std::test::Fail;
 
 /// What the calls answered: the word that the lost grant saw, and the arena's word while both blocks were out, and after
 /// both were given back.
+#[derive(Drop)]
 struct Worked {
     saw: u64,
     out: u64,
@@ -91,4 +94,33 @@ fn grant_in_turn<W: World>(pool: &Pool<W>, seat: &mut PoolSeat<W>) -> Worked
     ungrant(pool, seat, second);
     let back = look(pool, seat, WordName::Arena(0));
     Worked { saw, out, back }
+}
+
+/// A pool of one arena and one set, whose smallest block has 64 bytes. Its seat knows that no bit is set.
+pub(crate) fn opened<W: World>(
+    alloc: Global,
+    seats: u32,
+) -> Result<(Pool<W>, PoolSeat<W>), OpenFault>
+    ensures seat { IfOk result (λ r. IsSeatOf r.0 r.1) }
+    ensures arena { IfOk result (λ r. (sizes_of r.0).arenas ≡ 1) }
+    ensures word { IfOk result (λ r. KnowsWord 0 0 (view r.1)) }
+    ensures numbers { IfOk result (λ r. length (view r.1).numbers ≡ seats) }
+    ensures nothing { IfOk result (λ r. HasNothing (view r.1)) }
+{
+    let geometry = Geometry {
+        min_block: 64,
+        arenas: 1,
+        sets: 1,
+    };
+    Pool::create(alloc, geometry, seats)
+}
+
+#[test]
+fn a_stale_word_loses_the_grant(rt: HostRuntime) -> Result<(), Fail> {
+    let (pool, mut seat) = opened::<RealWorld>(rt.alloc(), 1)?;
+    let worked = grant_in_turn(&pool, &mut seat);
+    assert_eq!(rt; worked.saw, 0xF);
+    assert_eq!(rt; worked.out, 0x1F);
+    assert_eq!(rt; worked.back, 0);
+    Ok(())
 }

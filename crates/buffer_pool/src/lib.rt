@@ -15,6 +15,8 @@ mod pool;
 mod seat;
 #[cfg(test)]
 mod tests;
+#[cfg(test)]
+mod threads;
 mod token;
 
 pub use calls::{grant, join, look, split, ungrant};

@@ -1,5 +1,7 @@
-//! A schedule of the plain pool, with each kind of step where it is allowed and where it isn't.
+//! A schedule of the plain pool, with each kind of step where it is allowed and where it isn't; sizes that are refused.
 
+use crate::{Geometry, OpenFault, Pool};
+use outside::RealWorld;
 use pool_model::{Block, BufferKey, PlainPool, Sequence, Setting, Step};
 use std::alloc::{AllocError, Global};
 use std::test::Fail;
@@ -243,4 +245,50 @@ fn each_step_is_made_exactly_where_it_is_allowed(rt: HostRuntime) -> Result<(), 
         assert_eq!(rt; made.is_ok(), allowed);
     }
     Ok(())
+}
+
+/// Whether a pool of these sizes is refused for them.
+fn is_refused(alloc: Global, geometry: Geometry, seats: u32) -> bool {
+    let made = Pool::<RealWorld>::create(alloc, geometry, seats);
+    matches!(&made, Err(OpenFault::BadGeometry))
+}
+
+#[test]
+fn sizes_out_of_range_are_refused(rt: HostRuntime) {
+    let good = Geometry {
+        min_block: 64,
+        arenas: 1,
+        sets: 1,
+    };
+    let alloc = rt.alloc();
+    let refused = [
+        is_refused(alloc, good, 64),
+        is_refused(
+            alloc,
+            Geometry {
+                min_block: 100,
+                ..good
+            },
+            64,
+        ),
+        is_refused(
+            alloc,
+            Geometry {
+                min_block: 32,
+                ..good
+            },
+            64,
+        ),
+        is_refused(
+            alloc,
+            Geometry {
+                arenas: 65,
+                ..good
+            },
+            64,
+        ),
+        is_refused(alloc, Geometry { sets: 0, ..good }, 64),
+        is_refused(alloc, good, 65),
+    ];
+    assert_eq!(rt; refused, [false, true, true, true, true, true]);
 }

@@ -24,7 +24,7 @@ use Rattle.pool_rule.specs.Plays.{loads, exchanges, masks}
 use Rattle.pool_rule.specs.Rule.{IsKept}
 use Rattle.pool_rule.specs.Seats.{HasNothing, granted_at, spent, noted, with_step, with_granted, parted, part_of, joined}
 use Rattle.pool_rule.specs.Words.{learnt}
-use Rattle.pool_rule.proofs.Grants.{takes, gives}
+use Rattle.pool_rule.proofs.Grants.{takes, had_none, gives}
 use Rattle.pool_rule.proofs.Learn.{learns}
 use Rattle.pool_rule.proofs.Quiet.{notes, told}
 use Rattle.pool_rule.proofs.Seated.{parts, joins}
@@ -50,25 +50,26 @@ module _ {S : Type 0} (files : Option Files) (setup : Setup) (slots id : ℕ) (m
       )
 
   module _ (in_arenas : CoversInArena) (b : Block) (is_block : IsBlock 6 (places_of setup.geometry) b) (mask : ℕ) (is_mask : IsMask mask (b.place % 64) b.order) where
-    pub take_allowed : SettingTakes → (seen : ℕ) → IsClear seen (b.place % 64) b.order → Allows (IsKept files setup) slots id me (b.place / 64) (λ n. either (n == seen) (bit_or seen mask) n) (exchanges (λ _ u. with_step (Grant id b) (with_granted b.place (Some b.order) u)) (step slots (b.place / 64) seen (bit_or seen mask) none) me)
-    take_allowed sets seen clear s kept _ at _ =
+    pub take_allowed : SettingTakes → (tells : View → Type 0) → (granted_at me.0 b.place ≡ None → tells me.0) → (seen : ℕ) → IsClear seen (b.place % 64) b.order → Allows (IsKept files setup) slots id me (b.place / 64) (λ n. either (n == seen) (bit_or seen mask) n) (exchanges (λ _ u. with_step (Grant id b) (with_granted b.place (Some b.order) u)) tells (step slots (b.place / 64) seen (bit_or seen mask) none) me)
+    take_allowed sets tells fact seen clear s kept _ at _ =
         let i : ℕ = b.place / 64 in
         let n : ℕ = get_or s.words i 0 in
         let h = kept.1.1 in
-        let tells = told files setup s.words s.views kept.0 kept.1.0 h id me.0 at live i in
+        let told_here = told files setup s.words s.views kept.0 kept.1.0 h id me.0 at live i in
         elim (cases_eq n seen) [
           | inl hit ↦
               let w = noted i n (bit_or seen mask) Exchanged (with_step (Grant id b) (with_granted b.place (Some b.order) me.0)) in
               let K : ℕ → Type 0 = λ x. IsKept files setup {S = Unit {0}} (record { words = set s.words i (bit_or x mask); homes = []; views = set s.views id (noted i n (bit_or x mask) Exchanged (with_step (Grant id b) (with_granted b.place (Some b.order) me.0))) }) in
               let C : ℕ → Type 0 = λ x. IsClear x (b.place % 64) b.order in
               let F : Bool → Type 0 = λ t. IsKept files setup {S = Unit {0}} (record { words = set s.words i (either t (bit_or seen mask) n); homes = []; views = set s.views id w }) in
+              let had = had_none files setup s.words s.views kept.0 kept.1.0 h id me.0 at live in_arenas sets b is_block mask is_mask (subst C (sym hit) clear) in
               let done : F true = subst K hit (takes files setup s.words s.views kept.0 kept.1.0 h id me.0 at live in_arenas sets b is_block mask is_mask (subst C (sym hit) clear)) in
-              (w, keeps, tt, subst F (sym (eq-eqb n seen hit)) done, (tells, (λ _. refl), (λ miss. absurd (miss hit))))
+              (w, keeps, tt, subst F (sym (eq-eqb n seen hit)) done, (told_here, (λ _. (fact had, refl)), (λ miss. absurd (miss hit))))
           | inr miss ↦
               let w = noted i n n Failed me.0 in
               let F : Bool → Type 0 = λ t. IsKept files setup {S = Unit {0}} (record { words = set s.words i (either t (bit_or seen mask) n); homes = []; views = set s.views id w }) in
               let done : F false = notes files setup s.words s.views kept.0 kept.1.0 h id me.0 at live i Failed in
-              (w, keeps, tt, subst F (sym (ne_eqb n seen miss)) done, (tells, (λ hit. absurd (miss hit)), (λ _. refl)))
+              (w, keeps, tt, subst F (sym (ne_eqb n seen miss)) done, (told_here, (λ hit. absurd (miss hit)), (λ _. refl)))
         ]
 
     pub give_allowed : ClearingGives → granted_at me.0 b.place ≡ Some b.order → mask < 2 ^ 64 → Allows (IsKept files setup) slots id me (b.place / 64) (λ n. bit_and n (bit_not w64 mask)) (masks (λ _ u. with_step (Ungrant id b) (with_granted b.place None u)) (step slots (b.place / 64) (bit_not w64 mask) 0 none) me)

@@ -130,6 +130,17 @@ module _ (files : Option Files) (setup : Setup) (words : List ℕ) (views : List
         let word : get_or words (m / 64) 0 ≡ get_or words (b.place / 64) 0 = ap (λ k. get_or words k 0) there.0 in
         sym (h.bits m inside) ∙ (ap (λ x. bit_at x (m % 64)) word ∙ clear.at (m % 64) there.1 there.2)
 
+    none_here : grant_at pool b.place ≡ None
+    none_here =
+        let inside = place_below (places_of setup.geometry) b is_block.inside in
+        no_grant pool b.place (rw h.story.places inside) (is_free b.place (omega arith, omega (arith, pow_pos b.order)))
+
+    -- so the seat had none there
+    pub had_none : granted_at v b.place ≡ None
+    had_none =
+        let is = is_view files setup words views log pool h id v at live in
+        ap (λ u. granted_at u b.place) (sym is) ∙ (h.grants id b.place ∙ ap (own_grant id) none_here)
+
     pub takes : IsKept files setup {S = Unit {0}} (record { words = set words (b.place / 64) (bit_or (get_or words (b.place / 64) 0) mask); homes = []; views = set views id (noted (b.place / 64) (get_or words (b.place / 64) 0) (bit_or (get_or words (b.place / 64) 0) mask) Exchanged (with_step (Grant id b) (with_granted b.place (Some b.order) v))) })
     unfolding noted with_step with_granted
     takes =
@@ -141,7 +152,7 @@ module _ (files : Option Files) (setup : Setup) (words : List ℕ) (views : List
         let inside = place_below (places_of setup.geometry) b is_block.inside in
         let long : b.place < length pool.grants = rw h.story.places inside in
         let wide : i < length words = omega (arith, h.all_words, inside) in
-        let none = no_grant pool b.place long (is_free b.place (omega arith, omega (arith, pow_pos b.order))) in
+        let none = none_here in
         let fits : IsBlock 6 (length pool.grants) b = rw h.story.places is_block in (
           log ++ Grant id b ∷ [],
           (

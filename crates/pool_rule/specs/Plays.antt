@@ -12,11 +12,11 @@ use Rattle.pool_rule.specs.Seats.{noted, Told}
 abbrev pub loads : {S : Type 0} → (ℕ → View → View) → table.Step S → Me S View → ℕ → Me S View → Type 0
 loads change st me found new = Told me.0 st.word found × (new ≡ (noted st.word found found Loaded (change found me.0), me.1))
 
--- an exchange: the change is made where the word was the expected one
-abbrev pub exchanges : {S : Type 0} → (ℕ → View → View) → table.Step S → Me S View → ℕ → Me S View → Type 0
-exchanges change st me found new =
+-- an exchange: where the word was the expected one, the change is made, and the fact of the view before is told
+abbrev pub exchanges : {S : Type 0} → (ℕ → View → View) → (View → Type 0) → table.Step S → Me S View → ℕ → Me S View → Type 0
+exchanges change tells st me found new =
     Told me.0 st.word found
-    × (found ≡ st.first → new ≡ (noted st.word found st.second Exchanged (change found me.0), me.1))
+    × (found ≡ st.first → tells me.0 × (new ≡ (noted st.word found st.second Exchanged (change found me.0), me.1)))
     × (found ≢ st.first → new ≡ (noted st.word found found Failed me.0, me.1))
 
 -- a fetch_and

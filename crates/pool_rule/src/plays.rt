@@ -7,13 +7,17 @@ use crate::View;
 use atomic_table::{Join, Play, Split};
 use std::marker::{Brand, PhantomData};
 
-/// What a step does to the view beside its trail, given the word that it found.
+/// What a step does to the view beside its trail, given the word that it found, and what it tells of the view before.
 pub(crate) trait Change {
     ghost change: { ℕ → View → View };
+
+    ghost tells: { View → Type 0 };
 }
 
 impl Change for Brand {
     ghost change = { λ found v. v };
+
+    ghost tells = { λ v. Unit {0} };
 }
 
 pub(crate) struct Loads<C> {
@@ -33,7 +37,7 @@ pub(crate) struct Exchanges<C> {
 impl<S, C: Change> Play<S, View> for Exchanges<C> {
     ghost use Rattle.pool_rule.specs.Plays.{exchanges};
 
-    ghost then = { exchanges C.change };
+    ghost then = { exchanges C.change C.tells };
 }
 
 pub(crate) struct Masks<C> {

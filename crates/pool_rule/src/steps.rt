@@ -1,8 +1,9 @@
 //! The steps that seats make, one atomic step each.
 
-ghost use Rattle.std.specs.Prelude.{◌≡◌, ◌≢◌, ℕ, ◌*◌, ◌/◌, ◌%◌, ◌<◌, length, Some, IfOk, OnOk, IfErr};
+ghost use Rattle.std.specs.Prelude.{◌≡◌, ◌≢◌, ◌↔◌, ℕ, ◌*◌, ◌/◌, ◌%◌, ◌<◌, length, Some, None, IfOk, OnOk, IfErr};
 ghost use Rattle.buddy_arena.specs.Block.{IsClear};
 ghost use Rattle.pool_model.specs.Block.{IsBlock};
+ghost use Rattle.pool_rule.specs.declared.view.View.{View};
 ghost use Rattle.pool_rule.specs.Layout.{IsWord, IsGeometry, AreSeats, index_of, places_of};
 ghost use Rattle.pool_rule.specs.Rule.{first_view};
 ghost use Rattle.pool_rule.specs.Seats.{HasNothing, Told, granted_at, joined, parted, part_of};
@@ -92,8 +93,10 @@ impl<W: World> Words<W> {
         requires block { IsBlock 6 (places_of (geometry_of self.now)) block }
         requires clear { IsClear seen (block.place % 64) block.order }
         requires change { C.change ≡ (λ _ v. taking seat.old.id block v) }
+        requires tells { (v : View) → C.tells v ↔ (granted_at v block.place ≡ None) }
         ensures seat { IsStill (table_of self.now) (geometry_of self.now) seat.old seat.new }
         ensures told { Told (view seat.old) (block.place / 64) result }
+        ensures fresh { result ≡ seen → granted_at (view seat.old) block.place ≡ None }
         ensures took { result ≡ seen → view seat.new ≡ took seat.old.id block seen (view seat.old) }
         ensures missed { result ≢ seen → view seat.new ≡ missed (block.place / 64) result (view seat.old) }
     {
@@ -117,6 +120,7 @@ impl<W: World> Words<W> {
         requires block { IsBlock 6 (places_of (geometry_of self.now)) block }
         requires clear { IsClear seen (block.place % 64) block.order }
         ensures seat { IsStill (table_of self.now) (geometry_of self.now) seat.old seat.new }
+        ensures fresh { OnOk result (granted_at (view seat.old) block.place ≡ None) }
         ensures ok { OnOk result (Told (view seat.old) (block.place / 64) seen × (view seat.new ≡ took seat.old.id block seen (view seat.old))) }
         ensures err { IfErr result (λ e. (e.saw ≢ seen) × Told (view seat.old) (block.place / 64) e.saw × (view seat.new ≡ missed (block.place / 64) e.saw (view seat.old))) }
     {

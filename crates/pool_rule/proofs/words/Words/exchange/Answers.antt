@@ -27,11 +27,11 @@ compare_exchange-requires g c =
     let bits = c.mask-bits.result in
     let told : shared.key.geometry ≡ c.args.self.now.geometry = c.args.self.now.told in
     let B : Geometry → Type 0 = λ x. IsBlock 6 (places_of x) b in
-    let P : (ℕ → View → View) → Type 0 = λ f. Allows (IsKept g.W.World.files shared.key) shared.table_id.slots seat.id seat.me (b.place / 64) (λ n. either (n == seen) (bit_or seen bits) n) (exchanges f (step shared.table_id.slots (b.place / 64) seen (bit_or seen bits) none) seat.me) in
+    let P : (ℕ → View → View) → Type 0 = λ f. Allows (IsKept g.W.World.files shared.key) shared.table_id.slots seat.id seat.me (b.place / 64) (λ n. either (n == seen) (bit_or seen bits) n) (exchanges f g.C.Change.tells (step shared.table_id.slots (b.place / 64) seen (bit_or seen bits) none) seat.me) in
     let below = place_below (places_of c.args.self.now.geometry) b c.requires.block.inside in (
       c.requires.seat.table_is,
       omega (arith, c.args.self.now.all_words, below),
-      subst P (sym c.requires.change) (take_allowed g.W.World.files shared.key shared.table_id.slots seat.id seat.me c.requires.seat.live.numbers c.covers_in_arena.ensures b (subst B (sym told) c.requires.block) bits c.mask-bits.ensures.mask c.setting_takes.ensures seen c.requires.clear),
+      subst P (sym c.requires.change) (take_allowed g.W.World.files shared.key shared.table_id.slots seat.id seat.me c.requires.seat.live.numbers c.covers_in_arena.ensures b (subst B (sym told) c.requires.block) bits c.mask-bits.ensures.mask c.setting_takes.ensures g.C.Change.tells (λ none. (c.requires.tells seat.me.0).1 none) seen c.requires.clear),
     )
 
 pub returns-clause-seat : goal.returns-clause-seat
@@ -47,7 +47,7 @@ returns-clause-seat g c =
           let w = noted i found new Exchanged (taking old.id b old.me.0) in
           let same : noted i found new Exchanged (g.C.Change.change found old.me.0) ≡ w = ap (λ (f : ℕ → View → View). noted i found new Exchanged (f found old.me.0)) c.requires.change in
           still table c.args.self.now.geometry old c.compare_exchange.new.seat w c.requires.seat c.compare_exchange.ensures.0 c.compare_exchange.ensures.1
-          (c.compare_exchange.ensures.2.1 hit ∙ ap (λ (v : View). (v, old.me.1)) same) (noted_live c.args.self.now.geometry (taking old.id b old.me.0) (taking_live c.args.self.now.geometry old.me.0 c.requires.seat.live old.id b) i found new Exchanged)
+          ((c.compare_exchange.ensures.2.1 hit).1 ∙ ap (λ (v : View). (v, old.me.1)) same) (noted_live c.args.self.now.geometry (taking old.id b old.me.0) (taking_live c.args.self.now.geometry old.me.0 c.requires.seat.live old.id b) i found new Exchanged)
       | inr miss ↦
           still table c.args.self.now.geometry old c.compare_exchange.new.seat (noted i found found Failed old.me.0) c.requires.seat c.compare_exchange.ensures.0 c.compare_exchange.ensures.1
           (c.compare_exchange.ensures.2.2 miss) (noted_live c.args.self.now.geometry old.me.0 c.requires.seat.live i found found Failed)
