@@ -1,5 +1,5 @@
 -- What each step leaves of a view, read off the equation that says what the view is.
-use Rattle.std.proofs.Common.{◌≡◌, ◌≢◌, ℕ, ◌+◌, ◌-◌, ◌*◌, ◌/◌, ◌%◌, ◌^◌, ◌<◌, ◌≤◌, List, [], ◌∷◌, ◌++◌, length, take, drop, get_or, set, replicate, refl, sym, ap, ◌∙◌, subst, inl, inr, arith, bit_and, bit_or}
+use Rattle.std.proofs.Common.{◌≡◌, ◌≢◌, ℕ, zero, suc, ◌+◌, ◌-◌, ◌*◌, ◌/◌, ◌%◌, ◌^◌, ◌<◌, ◌≤◌, List, [], ◌∷◌, ◌++◌, length, take, drop, get_or, set, replicate, refl, sym, ap, ◌∙◌, subst, inl, inr, arith, bit_and, bit_or}
 use Rattle.std.specs.Prelude.{Option, Some, None, option_map}
 use Rattle.std.specs.Int.{w64, bit_not}
 use Rattle.std.proofs.lemmas.Bool.{cases_eq, cases_lt}
@@ -95,6 +95,17 @@ clear_bids m e is = let f : Free ≡ Bid = sym (ap (λ (x : Mark). x.hold) e) �
 
 pub first_bids : (setup : Setup) → HasNoBid (first_view setup)
 first_bids setup header is = clear_bids (mark_at (first_view setup) header) (replicated (headers_of setup.geometry) header clear_mark) is
+
+numbers_count : (first count : ℕ) → length (numbers_from first count) ≡ count
+numbers_count first zero = refl
+numbers_count first (suc count) = omega (arith, numbers_count (first + 1) count)
+
+pub first_numbers : (setup : Setup) → length (first_view setup).numbers ≡ setup.seats
+first_numbers setup = numbers_count 0 setup.seats
+
+pub first_nothing : (setup : Setup) → HasNothing (first_view setup)
+first_nothing setup =
+    record { marks = λ header. replicated (headers_of setup.geometry) header clear_mark; granted = λ place. replicated (places_of setup.geometry) place None }
 
 pub part_bids : (count : ℕ) (v : View) → HasNoBid (part_of count v)
 unfolding part_of

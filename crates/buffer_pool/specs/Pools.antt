@@ -1,10 +1,11 @@
 -- What callers see of a pool, of its seats and of what they are handed.
-use Rattle.std.specs.Prelude.{◌≡◌, ℕ}
+use Rattle.std.specs.Prelude.{◌≡◌, ℕ, Some}
 use Rattle.pool_model.specs.declared.block.Block.{Block}
 use Rattle.pool_model.specs.Block.{IsBlock}
 use Rattle.pool_rule.specs.declared.geometry.Geometry.{Geometry}
 use Rattle.pool_rule.specs.declared.view.View.{View}
 use Rattle.pool_rule.specs.Layout.{IsGeometry, AreSeats, places_of}
+use Rattle.pool_rule.specs.Seats.{granted_at}
 use Rattle.pool_rule.specs.Tables.{geometry_of, table_of}
 use Rattle.pool_rule.specs.Words.{IsSeatAt}
 use Rattle.buffer_pool.specs.declared.token.Grant.{Grant}
@@ -48,3 +49,8 @@ block_at place order = record { place = place; order = order }
 -- the block lies in one of the pool's arenas
 abbrev pub IsBlockOf : {W : Type 0} → Pool W → Block → Type 0
 IsBlockOf pool b = IsBlock 6 (places_of (sizes_of pool)) b
+
+-- the token grants a block of the pool, which the seat's view has
+pub record IsGrantOf {W : Type 0} (pool : Pool W) (seat : PoolSeat W) (grant : Grant) : Type 0 where
+  pub block : IsBlockOf pool (block_of grant)
+  pub granted : granted_at (view seat) (block_of grant).place ≡ Some (block_of grant).order

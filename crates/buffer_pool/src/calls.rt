@@ -7,7 +7,7 @@ ghost use Rattle.pool_rule.specs.declared.view.Event.TheVariants.{Parted, Joined
 ghost use Rattle.pool_rule.specs.Layout.{IsWord, index_of};
 ghost use Rattle.pool_rule.specs.Seats.{HasNothing, Told, granted_at, joined, parted, part_of};
 ghost use Rattle.pool_rule.specs.Words.{looked, took, gave, missed, mask_of};
-ghost use Rattle.buffer_pool.specs.Pools.{view, seat_id, sizes_of, block_of, block_at, IsSeatOf, IsSameSeat, IsBlockOf};
+ghost use Rattle.buffer_pool.specs.Pools.{view, seat_id, sizes_of, block_of, block_at, IsSeatOf, IsSameSeat, IsBlockOf, IsGrantOf};
 ghost use Rattle.buffer_pool.specs.Calls.{Steps, Looks, KeepsAll, KeepsOthers, grant_step, ungrant_step, load_of, exchange_of, miss_of, mask_out_of};
 
 use crate::{Grant, LostGrant, Pool, PoolSeat, WordName};
@@ -46,7 +46,9 @@ pub fn grant<W: World>(
     requires block { IsBlockOf pool.now (block_at place order) }
     requires clear { IsClear seen (place % 64) order }
     ensures seat { IsSameSeat pool.now seat.old seat.new }
-    ensures token { IfOk result (λ g. (block_of g ≡ block_at place order) × (granted_at (view seat.new) place ≡ Some order)) }
+    ensures block { IfOk result (λ g. block_of g ≡ block_at place order) }
+    ensures token { IfOk result (λ g. IsGrantOf pool.now seat.new g) }
+    ensures fresh { OnOk result (granted_at (view seat.old) place ≡ None) }
     ensures ok { OnOk result (view seat.new ≡ took (seat_id seat.old) (block_at place order) seen (view seat.old)) }
     ensures ok_step { OnOk result (Steps (place / 64) seen (bit_or seen (mask_of (block_at place order))) (exchange_of (block_at place order) seen) (view seat.old) (view seat.new)) }
     ensures ok_others { OnOk result (KeepsOthers place (grant_step (seat_id seat.old) (block_at place order)) (view seat.old) (view seat.new)) }
@@ -64,8 +66,7 @@ pub fn grant<W: World>(
 /// Gives a granted block back, in one step: a fetch_and clears its bits in the arena's word.
 pub fn ungrant<W: World>(pool: &Pool<W>, seat: &mut PoolSeat<W>, grant: Grant)
     requires seat { IsSeatOf pool.now seat.old }
-    requires block { IsBlockOf pool.now (block_of grant) }
-    requires granted { granted_at (view seat.old) (block_of grant).place ≡ Some (block_of grant).order }
+    requires token { IsGrantOf pool.now seat.old grant }
     ensures seat { IsSameSeat pool.now seat.old seat.new }
     ensures gone { granted_at (view seat.new) (block_of grant).place ≡ None }
     ensures step { (found : ℕ) × (found < 2 ^ 64) × (view seat.new ≡ gave (seat_id seat.old) (block_of grant) found (view seat.old)) × Steps ((block_of grant).place / 64) found (bit_and found (bit_not w64 (mask_of (block_of grant)))) (mask_out_of (block_of grant) found) (view seat.old) (view seat.new) }

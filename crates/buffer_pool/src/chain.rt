@@ -1,13 +1,13 @@
 //! A row of calls by a seat that knows the words: what each answers is proved, and tried.
 
-ghost use Rattle.std.specs.Prelude.{◌≡◌, ◌≢◌, ◌≤◌, ◌/◌, ◌%◌, ℕ, Some, IfOk, length, bit_or};
+ghost use Rattle.std.specs.Prelude.{◌≡◌, ◌≢◌, ◌≤◌, ◌/◌, ◌%◌, ℕ, IfOk, length, bit_or};
 ghost use Rattle.buddy_arena.specs.Block.{IsClear};
-ghost use Rattle.pool_rule.specs.Seats.{HasNothing, granted_at};
+ghost use Rattle.pool_rule.specs.Seats.{HasNothing};
 ghost use Rattle.pool_rule.specs.Words.{mask_of};
 ghost use Rattle.buffer_pool.specs.Callers.{KnowsWord};
 ghost use Rattle.buffer_pool.specs.Calls.{Steps, KeepsAll, KeepsOthers, grant_step, exchange_of, miss_of};
 ghost use Rattle.buffer_pool.specs.Chain.{IsWorkedTrail};
-ghost use Rattle.buffer_pool.specs.Pools.{IsSeatOf, IsSameSeat, IsBlockOf, block_at, block_of, seat_id, sizes_of, view};
+ghost use Rattle.buffer_pool.specs.Pools.{IsSeatOf, IsSameSeat, IsBlockOf, IsGrantOf, block_at, block_of, seat_id, sizes_of, view};
 
 use crate::{Geometry, Grant, OpenFault, Pool, PoolSeat, WordName, grant, look, ungrant};
 use outside::{RealWorld, World};
@@ -37,7 +37,7 @@ fn granted<W: World>(
     requires word { KnowsWord (place / 64) seen (view seat.old) }
     ensures seat { IsSameSeat pool.now seat.old seat.new }
     ensures block { block_of result ≡ block_at place order }
-    ensures granted { granted_at (view seat.new) place ≡ Some order }
+    ensures token { IsGrantOf pool.now seat.new result }
     ensures step { Steps (place / 64) seen (bit_or seen (mask_of (block_at place order))) (exchange_of (block_at place order) seen) (view seat.old) (view seat.new) }
     ensures others { KeepsOthers place (grant_step (seat_id seat.old) (block_at place order)) (view seat.old) (view seat.new) }
 {

@@ -1,8 +1,9 @@
 //! A pool is made.
 
-ghost use Rattle.std.specs.Prelude.{◌≡◌, ◌↔◌, ◌≤◌, IsTrue, IfOk, IfErr};
+ghost use Rattle.std.specs.Prelude.{◌≡◌, ◌↔◌, ◌≤◌, [], Some, length, IsTrue, IfOk, IfErr};
 ghost use Rattle.pool_rule.specs.Layout.{IsGeometry, AreSeats};
-ghost use Rattle.pool_rule.specs.Rule.{first_view};
+ghost use Rattle.pool_rule.specs.Rule.{first_view, first_words};
+ghost use Rattle.pool_rule.specs.Seats.{HasNothing};
 ghost use Rattle.buffer_pool.specs.Pools.{IsInRange, IsSeatOf, seat_id, sizes_of, view};
 
 use crate::{Geometry, OpenFault, Pool, PoolSeat};
@@ -43,6 +44,9 @@ impl<W: World> Pool<W> {
         ensures refused { IfErr result (λ e. (e ≡ OpenFault.BadGeometry) ↔ (IsInRange geometry seats → ⊥)) }
         ensures sizes { IfOk result (λ r. sizes_of r.0 ≡ geometry) }
         ensures seat { IfOk result (λ r. IsSeatOf r.0 r.1 × (seat_id r.1 ≡ 0)) }
+        ensures words { IfOk result (λ r. (view r.1).known ≡ Some (first_words geometry)) }
+        ensures numbers { IfOk result (λ r. length (view r.1).numbers ≡ seats) }
+        ensures nothing { IfOk result (λ r. HasNothing (view r.1) × ((view r.1).trail ≡ [])) }
         ensures view { IfOk result (λ r. view r.1 ≡ first_view (record { geometry = geometry; seats = seats })) }
     {
         if !is_in_range(geometry, seats) {

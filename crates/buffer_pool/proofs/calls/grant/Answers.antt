@@ -29,7 +29,10 @@ returns-in-Ok-clause-token g c =
     let end = c.requires.block.inside in
     let size = pow_pos c.args.order in
     let P : View → Type 0 = λ w. granted_at w b.place ≡ Some b.order in
-    (refl, subst P (sym c.in-Ok.ensures.ok.1) (took_block (seat_id c.args.seat.now) b c.args.seen v (omega (arith, wide, end, size))))
+    record {
+      block = c.requires.block;
+      granted = subst P (sym c.in-Ok.ensures.ok.1) (took_block (seat_id c.args.seat.now) b c.args.seen v (omega (arith, wide, end, size)));
+    }
 
 pub returns-in-Ok-clause-ok_step : goal.returns-in-Ok-clause-ok_step
 returns-in-Ok-clause-ok_step g c =

@@ -49,6 +49,9 @@ module _ (v0 v1 v2 v3 v4 v5 v6 v7 : View) (out back n m : ℕ) (b c : Block) (sa
   t4 : Steps 0 31 31 (load_of 0 31) v3 v4
   t4 = look_of out 31 v3 v4 k3 s4
 
+  out_is : out ≡ 31
+  out_is = finds_known 0 out out 31 (load_of 0 out) v3 v4 s4 k3
+
   k4 : KnowsWord 0 31 v4
   k4 = knows_left 0 31 31 31 (load_of 0 31) v3 v4 t4 k3
 
@@ -74,6 +77,12 @@ module _ (v0 v1 v2 v3 v4 v5 v6 v7 : View) (out back n m : ℕ) (b c : Block) (sa
       let add = λ (e : Event) (l : List Event). l ++ e ∷ [] in
       t7.trail ∙ ap (add (load_of 0 0)) (t6.trail ∙ ap (add (mask_out_of (block_at 4 0) 16)) (t5.trail ∙ ap (add (mask_out_of (block_at 0 2) 31)) (t4.trail ∙ ap (add (load_of 0 31)) (t3.trail ∙ ap (add (exchange_of (block_at 4 0) 15)) (s2.trail ∙ ap (add (miss_of (block_at 4 0) 15)) s1.trail)))))
 
+pub returns-clause-out : goal.returns-clause-out
+returns-clause-out g c =
+    out_is (view c.args.seat.now) (view c.granted-first.new.seat) (view c.lost-saw.new.seat) (view c.granted-second.new.seat) (view c.look-out.new.seat) (view c.ungrant.new.seat) (view c.ungrant-2.new.seat) (view c.look-back.new.seat)
+    c.look-out.result c.look-back.result c.ungrant.ensures.step.0 c.ungrant-2.ensures.step.0 (block_of c.granted-first.result) (block_of c.granted-second.result) c.lost-saw.result c.granted-first.ensures.block c.granted-second.ensures.block c.lost-saw.ensures.saw c.requires.word
+    c.granted-first.ensures.step c.lost-saw.ensures.step c.granted-second.ensures.step c.look-out.ensures.step c.ungrant.ensures.step.3 c.ungrant-2.ensures.step.3 c.look-back.ensures.step
+
 pub returns-clause-back : goal.returns-clause-back
 returns-clause-back g c =
     last_is (view c.args.seat.now) (view c.granted-first.new.seat) (view c.lost-saw.new.seat) (view c.granted-second.new.seat) (view c.look-out.new.seat) (view c.ungrant.new.seat) (view c.ungrant-2.new.seat) (view c.look-back.new.seat)
@@ -87,25 +96,29 @@ returns-clause-trail g c =
     c.granted-first.ensures.step c.lost-saw.ensures.step c.granted-second.ensures.step c.look-out.ensures.step c.ungrant.ensures.step.3 c.ungrant-2.ensures.step.3 c.look-back.ensures.step
 
 -- the first block is still there after three calls
-first_stays : (v1 v2 v3 v4 : View) (b : Block) → b ≡ block_at 0 2 → granted_at v1 0 ≡ Some 2 → v2.granted ≡ v1.granted → ((p : ℕ) → p ≢ 4 → granted_at v3 p ≡ granted_at v2 p) → v4.granted ≡ v3.granted → granted_at v4 b.place ≡ Some b.order
+first_stays : (v1 v2 v3 v4 : View) (b : Block) → b ≡ block_at 0 2 → granted_at v1 b.place ≡ Some b.order → v2.granted ≡ v1.granted → ((p : ℕ) → p ≢ 4 → granted_at v3 p ≡ granted_at v2 p) → v4.granted ≡ v3.granted → granted_at v4 b.place ≡ Some b.order
 first_stays v1 v2 v3 v4 b is has all others looked =
-    let at = λ (l : List (Option ℕ)). get_or l 0 None in
-    let e : granted_at v4 0 ≡ Some 2 = ap at looked ∙ (others 0 (λ z. omega (arith, z)) ∙ (ap at all ∙ has)) in
-    let P : Block → Type 0 = λ x. granted_at v4 x.place ≡ Some x.order in
-    subst P (sym is) e
+    let at = λ (l : List (Option ℕ)). get_or l b.place None in
+    let place : b.place ≡ 0 = ap (λ (x : Block). x.place) is in
+    ap at looked ∙ (others b.place (λ z. omega (arith, z, place)) ∙ (ap at all ∙ has))
 
-second_stays : (v3 v4 v5 : View) (b c : Block) → b ≡ block_at 0 2 → c ≡ block_at 4 0 → granted_at v3 4 ≡ Some 0 → v4.granted ≡ v3.granted → ((p : ℕ) → p ≢ b.place → granted_at v5 p ≡ granted_at v4 p) → granted_at v5 c.place ≡ Some c.order
+second_stays : (v3 v4 v5 : View) (b c : Block) → b ≡ block_at 0 2 → c ≡ block_at 4 0 → granted_at v3 c.place ≡ Some c.order → v4.granted ≡ v3.granted → ((p : ℕ) → p ≢ b.place → granted_at v5 p ≡ granted_at v4 p) → granted_at v5 c.place ≡ Some c.order
 second_stays v3 v4 v5 b c is_b is_c has looked others =
-    let at = λ (l : List (Option ℕ)). get_or l 4 None in
-    let place : b.place ≡ 0 = ap (λ (x : Block). x.place) is_b in
-    let e : granted_at v5 4 ≡ Some 0 = others 4 (λ z. omega (arith, z, place)) ∙ (ap at looked ∙ has) in
-    let P : Block → Type 0 = λ x. granted_at v5 x.place ≡ Some x.order in
-    subst P (sym is_c) e
+    let at = λ (l : List (Option ℕ)). get_or l c.place None in
+    let first : b.place ≡ 0 = ap (λ (x : Block). x.place) is_b in
+    let second : c.place ≡ 4 = ap (λ (x : Block). x.place) is_c in
+    others c.place (λ z. omega (arith, z, first, second)) ∙ (ap at looked ∙ has)
 
-pub ungrant-requires-clause-granted : goal.ungrant-requires-clause-granted
-ungrant-requires-clause-granted g c =
-    first_stays (view c.granted-first.new.seat) (view c.lost-saw.new.seat) (view c.granted-second.new.seat) (view c.look-out.new.seat) (block_of c.granted-first.result) c.granted-first.ensures.block c.granted-first.ensures.granted c.lost-saw.ensures.all.granted c.granted-second.ensures.others.others c.look-out.ensures.keeps.granted
+pub ungrant-requires-clause-token : goal.ungrant-requires-clause-token
+ungrant-requires-clause-token g c =
+    record {
+      block = c.granted-first.ensures.token.block;
+      granted = first_stays (view c.granted-first.new.seat) (view c.lost-saw.new.seat) (view c.granted-second.new.seat) (view c.look-out.new.seat) (block_of c.granted-first.result) c.granted-first.ensures.block c.granted-first.ensures.token.granted c.lost-saw.ensures.all.granted c.granted-second.ensures.others.others c.look-out.ensures.keeps.granted;
+    }
 
-pub ungrant-requires-2-clause-granted : goal.ungrant-requires-2-clause-granted
-ungrant-requires-2-clause-granted g c =
-    second_stays (view c.granted-second.new.seat) (view c.look-out.new.seat) (view c.ungrant.new.seat) (block_of c.granted-first.result) (block_of c.granted-second.result) c.granted-first.ensures.block c.granted-second.ensures.block c.granted-second.ensures.granted c.look-out.ensures.keeps.granted c.ungrant.ensures.others.others
+pub ungrant-requires-2-clause-token : goal.ungrant-requires-2-clause-token
+ungrant-requires-2-clause-token g c =
+    record {
+      block = c.granted-second.ensures.token.block;
+      granted = second_stays (view c.granted-second.new.seat) (view c.look-out.new.seat) (view c.ungrant.new.seat) (block_of c.granted-first.result) (block_of c.granted-second.result) c.granted-first.ensures.block c.granted-second.ensures.block c.granted-second.ensures.token.granted c.look-out.ensures.keeps.granted c.ungrant.ensures.others.others;
+    }
