@@ -1,6 +1,6 @@
 -- What each step leaves of a view, read off the equation that says what the view is.
-use Rattle.std.proofs.Common.{◌≡◌, ◌≢◌, ℕ, zero, suc, ◌+◌, ◌-◌, ◌*◌, ◌/◌, ◌%◌, ◌^◌, ◌<◌, ◌≤◌, List, [], ◌∷◌, ◌++◌, length, take, drop, get_or, set, replicate, refl, sym, ap, ◌∙◌, subst, inl, inr, arith, bit_and, bit_or}
-use Rattle.std.specs.Prelude.{Option, Some, None, option_map}
+use Rattle.std.proofs.Common.{◌≡◌, ℕ, zero, suc, ◌+◌, ◌-◌, ◌/◌, ◌<◌, List, [], ◌∷◌, ◌++◌, length, get_or, set, replicate, refl, sym, ap, ◌∙◌, inl, inr, arith, bit_and, bit_or}
+use Rattle.std.specs.Prelude.{Some, None, option_map}
 use Rattle.std.specs.Int.{w64, bit_not}
 use Rattle.std.proofs.lemmas.Bool.{cases_eq, cases_lt}
 use Rattle.std.proofs.lemmas.List.{get_or-set_same, get_or-set_other, get_or_past, get_or-replicate, set_past, length-replicate, length-drop, take-append-drop}
@@ -11,7 +11,7 @@ use Rattle.pool_rule.specs.declared.geometry.Geometry.{Geometry}
 use Rattle.pool_rule.specs.declared.geometry.Setup.{Setup}
 use Rattle.pool_rule.specs.declared.geometry.WordName.{WordName}
 use Rattle.pool_rule.specs.declared.geometry.WordName.TheVariants.{Arena, State, KeyOf, Touches, Last, Clock}
-use Rattle.pool_rule.specs.declared.view.Deed.TheVariants.{Loaded, Exchanged, Failed, Changed}
+use Rattle.pool_rule.specs.declared.view.Deed.TheVariants.{Loaded}
 use Rattle.pool_rule.specs.declared.view.Event.TheVariants.{Parted, Joined}
 use Rattle.pool_rule.specs.declared.view.Hold.{Hold}
 use Rattle.pool_rule.specs.declared.view.Hold.TheVariants.{Free, Bid, Pinned}
@@ -19,8 +19,8 @@ use Rattle.pool_rule.specs.declared.view.Mark.{Mark}
 use Rattle.pool_rule.specs.declared.view.View.{View}
 use Rattle.pool_rule.specs.Layout.{index_of, headers_of, places_of}
 use Rattle.pool_rule.specs.Rule.{first_view}
-use Rattle.pool_rule.specs.Seats.{HasNothing, Told, mark_at, granted_at, clear_mark, noted, with_step, with_granted, with_key, hold_with_key, mark_with_key, key_of, parted, part_of, joined, numbers_from, fresh_view}
-use Rattle.pool_rule.specs.Words.{IsLive, looked, learnt, took, gave, missed, taking, giving, mask_of}
+use Rattle.pool_rule.specs.Seats.{HasNothing, Told, mark_at, granted_at, clear_mark, noted, with_step, with_granted, with_key, hold_with_key, mark_with_key, key_of, parted, part_of, joined, numbers_from}
+use Rattle.pool_rule.specs.Words.{looked, learnt, took, gave, missed, mask_of}
 use Rattle.buffer_pool.specs.Bids.{HasNoBid}
 use Rattle.buffer_pool.specs.Calls.{Steps, Looks, KeepsAll, KeepsOthers, load_of, exchange_of, miss_of, mask_out_of}
 

@@ -1,17 +1,15 @@
 -- What a call leaves of a seat's view, for those who make several in a row.
-use Rattle.std.specs.Prelude.{◌≡◌, ◌≢◌, ℕ, ◌/◌, List, [], ◌∷◌, ◌++◌, Some, None, bit_and, bit_or, option_map, slice_set}
+use Rattle.std.specs.Prelude.{◌≡◌, ◌≢◌, ℕ, ◌/◌, [], ◌∷◌, ◌++◌, bit_and, bit_or, option_map, slice_set}
 use Rattle.std.specs.Int.{w64, bit_not}
 use Rattle.pool_model.specs.declared.block.Block.{Block}
 use Rattle.pool_model.specs.declared.step.Step.{Step}
 use Rattle.pool_model.specs.declared.step.Step.TheVariants.{Grant, Ungrant}
-use Rattle.pool_rule.specs.declared.geometry.Geometry.{Geometry}
 use Rattle.pool_rule.specs.declared.geometry.WordName.{WordName}
 use Rattle.pool_rule.specs.declared.geometry.WordName.TheVariants.{Arena, State, KeyOf, Touches, Last, Clock}
 use Rattle.pool_rule.specs.declared.view.Deed.TheVariants.{Loaded, Exchanged, Failed, Changed}
 use Rattle.pool_rule.specs.declared.view.Event.{Event}
-use Rattle.pool_rule.specs.declared.view.Event.TheVariants.{Stepped, Parted, Joined}
+use Rattle.pool_rule.specs.declared.view.Event.TheVariants.{Stepped}
 use Rattle.pool_rule.specs.declared.view.View.{View}
-use Rattle.pool_rule.specs.Layout.{index_of}
 use Rattle.pool_rule.specs.Seats.{Told, granted_at, mark_at}
 use Rattle.pool_rule.specs.Words.{mask_of}
 

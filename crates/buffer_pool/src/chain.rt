@@ -48,13 +48,7 @@ fn granted<W: World>(
 }
 
 /// Fails to grant a block, where the seat knows that the arena's word is another than the expected one. Gives that word.
-fn lost<W: World>(
-    pool: &Pool<W>,
-    seat: &mut PoolSeat<W>,
-    place: u32,
-    order: u32,
-    seen: u64,
-) -> u64
+fn lost<W: World>(pool: &Pool<W>, seat: &mut PoolSeat<W>, place: u32, order: u32, seen: u64) -> u64
     ghost word: { ℕ }
     requires seat { IsSeatOf pool.now seat.old }
     requires block { IsBlockOf pool.now (block_at place order) }

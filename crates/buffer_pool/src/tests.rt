@@ -279,14 +279,7 @@ fn sizes_out_of_range_are_refused(rt: HostRuntime) {
             },
             64,
         ),
-        is_refused(
-            alloc,
-            Geometry {
-                arenas: 65,
-                ..good
-            },
-            64,
-        ),
+        is_refused(alloc, Geometry { arenas: 65, ..good }, 64),
         is_refused(alloc, Geometry { sets: 0, ..good }, 64),
         is_refused(alloc, good, 65),
     ];

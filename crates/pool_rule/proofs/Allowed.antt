@@ -1,12 +1,12 @@
 -- What the table asks of each step: whatever it is then, the step keeps the rule and tells what it should.
-use Rattle.std.proofs.Common.{◌≡◌, ◌≢◌, ◌==◌, ℕ, ◌+◌, ◌-◌, ◌*◌, ◌/◌, ◌%◌, ◌^◌, ◌<◌, ◌≤◌, Bool, true, false, List, [], ◌∷◌, ◌++◌, length, get_or, set, refl, sym, ap, ◌∙◌, subst, inl, inr, arith, eqb, eq-eqb, ne_eqb, bit_and, bit_or}
+use Rattle.std.proofs.Common.{◌≡◌, ◌==◌, ℕ, ◌/◌, ◌%◌, ◌^◌, ◌<◌, Bool, true, false, [], length, get_or, set, refl, sym, subst, inl, inr, eq-eqb, ne_eqb, bit_and, bit_or}
 use Rattle.std.specs.Prelude.{Option, None, Some}
 use Rattle.std.specs.Int.{w64, bit_not}
 use Rattle.std.proofs.lemmas.Bool.{cases_eq}
 use mathlib.Core.Option.{none, some}
 use lib.ListN.{get_elem?}
 use prog.Atomic.{either}
-use Rattle.atomic_table.specs.Table.{Me, State, step, keeps, stepped, Allows, Splits, Joins}
+use Rattle.atomic_table.specs.Table.{Me, State, step, keeps, Allows, Splits, Joins}
 use Rattle.buddy_arena.specs.Block.{IsClear, IsMask}
 use Rattle.buddy_arena.specs.Laws.{CoversInArena, SettingTakes, ClearingGives}
 use Rattle.pool_model.specs.declared.block.Block.{Block}

@@ -1,6 +1,5 @@
 -- A block's minimum blocks, and its bits in the word of its arena.
-use Rattle.std.proofs.Common.{◌≡◌, ◌≢◌, ◌↔◌, ℕ, ◌+◌, ◌-◌, ◌*◌, ◌/◌, ◌%◌, ◌^◌, ◌<◌, ◌≤◌, min, List, length, get_or, set, refl, sym, ap, ◌∙◌, subst, inl, inr, arith, cond, leb, ltb, ◌&&◌, div-add-mod', bit_and, bit_or}
-use Rattle.std.specs.Prelude.{Option, None, Some}
+use Rattle.std.proofs.Common.{◌≡◌, ℕ, ◌+◌, ◌-◌, ◌/◌, ◌%◌, ◌^◌, ◌<◌, ◌≤◌, min, List, length, get_or, set, sym, ap, ◌∙◌, subst, inl, inr, arith, cond, leb, ltb, ◌&&◌, div-add-mod', bit_and, bit_or}
 use Rattle.std.specs.Int.{w64, bit_at, bit_not}
 use Rattle.std.proofs.lemmas.Bool.{cases_eq, cases_lt, lt-leb, le-leb, lt-ltb, le-ltb}
 use Rattle.std.proofs.lemmas.List.{get_or-set_same, get_or-set_other}

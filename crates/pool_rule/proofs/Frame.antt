@@ -1,5 +1,5 @@
 -- One seat steps on one word: what stays, and what is left to show.
-use Rattle.std.proofs.Common.{◌≡◌, ◌≢◌, ◌==◌, ℕ, zero, suc, ◌+◌, ◌<◌, ◌≤◌, List, [], ◌∷◌, ◌++◌, length, get_or, set, filter, refl, sym, ap, ◌∙◌, subst, inl, inr, arith}
+use Rattle.std.proofs.Common.{◌≡◌, ◌≢◌, ◌==◌, ℕ, ◌+◌, ◌<◌, List, [], ◌++◌, length, get_or, set, refl, sym, ap, ◌∙◌, subst, inl, inr, arith}
 use Rattle.std.specs.Prelude.{Option, None, Some, option_map, IfSome}
 use Rattle.std.proofs.lemmas.Bool.{cases_eq, cases_lt}
 use Rattle.std.proofs.lemmas.List.{get_or-set_same, get_or-set_other, get_or_past, length-set, append-nil}
@@ -17,10 +17,10 @@ use Rattle.pool_rule.specs.declared.geometry.Setup.{Setup}
 use Rattle.pool_rule.specs.declared.view.Mark.{Mark}
 use Rattle.pool_rule.specs.declared.view.View.{View}
 use Rattle.pool_rule.specs.Headers.{IsHeader, hold_count}
-use Rattle.pool_rule.specs.Layout.{headers_of, places_of, header_word}
+use Rattle.pool_rule.specs.Layout.{headers_of, header_word}
 use Rattle.std.specs.List.{count_by}
 use Rattle.pool_rule.specs.Rule.{seat_of, IsStory, IsSeat, AreShared, AreBits, StandsFor, StandsForBuffer, view_at, has_number, steps_of, own_grant, cells_in, count_of, marks_of}
-use Rattle.pool_rule.specs.Seats.{mark_at, granted_at, spent, clear_mark}
+use Rattle.pool_rule.specs.Seats.{mark_at, granted_at, spent}
 use Rattle.pool_rule.proofs.Lists.{elem_below, elem_is, same_at, total-set, total-at, total-two}
 
 -- the view is as the other one but for what a seat has, its known words, its trail and its steps

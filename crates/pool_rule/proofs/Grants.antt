@@ -1,9 +1,9 @@
 -- A block is granted, or given back: one arena's word changes, and what one seat has of the arenas.
-use Rattle.std.proofs.Common.{◌≡◌, ◌≢◌, ℕ, ◌+◌, ◌-◌, ◌*◌, ◌/◌, ◌%◌, ◌^◌, ◌<◌, ◌≤◌, List, [], ◌∷◌, ◌++◌, length, get_or, set, refl, sym, ap, ◌∙◌, subst, inl, inr, arith, eq-eqb, ne_eqb, bit_and, bit_or}
+use Rattle.std.proofs.Common.{◌≡◌, ◌≢◌, ℕ, ◌+◌, ◌/◌, ◌%◌, ◌^◌, ◌<◌, List, [], ◌∷◌, ◌++◌, length, get_or, set, refl, sym, ap, ◌∙◌, subst, inl, inr, arith, eq-eqb, ne_eqb, bit_and, bit_or}
 use Rattle.std.specs.Prelude.{Option, None, Some, option_map}
 use Rattle.std.specs.Int.{w64, bit_at, bit_not}
 use Rattle.std.proofs.lemmas.Bool.{cases_eq}
-use Rattle.std.proofs.lemmas.List.{get_or-set_same, get_or-set_other, get_or_past, length-set}
+use Rattle.std.proofs.lemmas.List.{get_or-set_same, get_or-set_other, length-set}
 use Rattle.std.proofs.lemmas.Nat.{pow_pos}
 use mathlib.Core.Option.{some}
 use lib.ListN.{get_elem?}
@@ -14,16 +14,16 @@ use Rattle.pool_model.specs.declared.pool.GrantedBlock.{GrantedBlock}
 use Rattle.pool_model.specs.declared.pool.PlainPool.{PlainPool}
 use Rattle.pool_model.specs.declared.step.Step.{Step}
 use Rattle.pool_model.specs.declared.step.Step.TheVariants.{Grant, Ungrant}
-use Rattle.pool_model.specs.Block.{Within, IsBlock, covers}
+use Rattle.pool_model.specs.Block.{IsBlock, covers}
 use Rattle.pool_model.specs.Content.{Files}
-use Rattle.pool_model.specs.Pool.{buffer_at, grant_at, block_of, HasGrant, with_grant, without_grant, grant_covers, owners, total}
+use Rattle.pool_model.specs.Pool.{grant_at, block_of, grant_covers, owners}
 use Rattle.pool_model.specs.Step.{IsFree, Needs, after}
 use Rattle.pool_rule.specs.declared.geometry.Setup.{Setup}
 use Rattle.pool_rule.specs.declared.view.Deed.TheVariants.{Exchanged, Changed}
 use Rattle.pool_rule.specs.declared.view.View.{View}
-use Rattle.pool_rule.specs.Layout.{headers_of, places_of, header_word, cell_word, word_count}
-use Rattle.pool_rule.specs.Rule.{IsStory, IsKept, seat_of, steps_of, setting_of, StandsFor, StandsForBuffer, AreBits, view_at, own_grant, cells_in}
-use Rattle.pool_rule.specs.Seats.{mark_at, clear_mark, granted_at, spent, noted, with_step, with_granted}
+use Rattle.pool_rule.specs.Layout.{places_of, header_word, cell_word}
+use Rattle.pool_rule.specs.Rule.{IsStory, IsKept, seat_of, steps_of, setting_of, StandsFor, AreBits, view_at, own_grant}
+use Rattle.pool_rule.specs.Seats.{clear_mark, granted_at, spent, noted, with_step, with_granted}
 use Rattle.pool_rule.proofs.Blocks.{in_arena, covers_within, place_below, bits_set, bits_cleared}
 use Rattle.pool_rule.proofs.Frame.{IsAlike, below, is_view, own, stands_after, header_stays}
 use Rattle.pool_rule.proofs.Lists.{total-set, total-at}

@@ -1,23 +1,21 @@
 -- A load of a header's key word: what the seat learns of the key is the buffer's.
-use Rattle.std.proofs.Common.{◌≡◌, ◌≢◌, ℕ, ◌+◌, ◌-◌, ◌*◌, ◌/◌, ◌%◌, ◌^◌, ◌<◌, ◌≤◌, List, [], ◌∷◌, ◌++◌, length, get_or, set, refl, sym, ap, ◌∙◌, subst, inl, inr, arith, IsTrue}
-use Rattle.std.specs.Prelude.{Option, None, Some, option_map, IfSome, IsSome, IsSomeAnd}
+use Rattle.std.proofs.Common.{◌≡◌, ℕ, ◌+◌, ◌-◌, ◌*◌, ◌/◌, ◌%◌, ◌<◌, List, [], ◌++◌, length, get_or, set, refl, sym, ap, ◌∙◌, subst, inl, inr, arith}
+use Rattle.std.specs.Prelude.{Option, None, Some, IfSome, IsSome}
 use Rattle.std.proofs.lemmas.Bool.{cases_eq}
 use Rattle.std.proofs.lemmas.List.{get_or-set_same, get_or-set_other, length-set}
 use mathlib.Core.Option.{some}
 use lib.ListN.{get_elem?}
-use Rattle.pool_model.specs.declared.block.Block.{Block}
 use Rattle.pool_model.specs.declared.buffer.Buffer.{Buffer}
 use Rattle.pool_model.specs.declared.buffer.BufferKey.{BufferKey}
 use Rattle.pool_model.specs.declared.buffer.BufferMode.{BufferMode}
 use Rattle.pool_model.specs.declared.buffer.BufferMode.TheVariants.{New, Live, Moving, Evicted}
-use Rattle.pool_model.specs.declared.buffer.Target.{Target}
 use Rattle.pool_model.specs.declared.pool.PlainPool.{PlainPool}
 use Rattle.pool_model.specs.declared.step.Step.{Step}
 use Rattle.pool_model.specs.Buffer.{Holds}
 use Rattle.pool_model.specs.Content.{Files}
-use Rattle.pool_model.specs.Lawful.{IsLawful, IsLawfulBuffer, HoldersFit, HasKey}
+use Rattle.pool_model.specs.Lawful.{IsLawfulBuffer, HoldersFit, HasKey}
 use Rattle.pool_model.specs.Laws.{EveryRunIsLawful}
-use Rattle.pool_model.specs.Pool.{buffer_at, total}
+use Rattle.pool_model.specs.Pool.{buffer_at}
 use Rattle.buffer_word.specs.KeyWord.{IsKey, key_word}
 use Rattle.pool_rule.specs.declared.geometry.Setup.{Setup}
 use Rattle.pool_rule.specs.declared.view.Claim.{Claim}
@@ -27,12 +25,12 @@ use Rattle.pool_rule.specs.declared.view.Hold.{Hold}
 use Rattle.pool_rule.specs.declared.view.Hold.TheVariants.{Free, Bid, Pinned}
 use Rattle.pool_rule.specs.declared.view.Mark.{Mark}
 use Rattle.pool_rule.specs.declared.view.View.{View}
-use Rattle.pool_rule.specs.Headers.{IsHeader, HasContent, HoldFits, ClaimFits, MarkFits, IsKnown, packed, hold_count, state_of}
+use Rattle.pool_rule.specs.Headers.{HoldFits, ClaimFits, MarkFits, IsKnown, packed, hold_count, state_of}
 use Rattle.pool_rule.specs.Layout.{headers_of, header_word}
 use Rattle.pool_rule.specs.Rule.{IsKept, StandsFor, StandsForBuffer, setting_of, view_at, count_of, marks_of}
-use Rattle.pool_rule.specs.Seats.{mark_at, granted_at, spent, clear_mark, noted, with_key, key_of, known_key, hold_with_key, claim_with_key, mark_with_key}
-use Rattle.pool_rule.proofs.Frame.{IsAlike, below, is_view, own}
-use Rattle.pool_rule.proofs.Lists.{same_at, total-set}
+use Rattle.pool_rule.specs.Seats.{mark_at, spent, clear_mark, noted, with_key, key_of, known_key, hold_with_key, claim_with_key, mark_with_key}
+use Rattle.pool_rule.proofs.Frame.{below, is_view, own}
+use Rattle.pool_rule.proofs.Lists.{total-set}
 use Rattle.pool_rule.proofs.Quiet.{quiet, header_seen}
 use Rattle.pool_rule.proofs.Story.{story_lawful}
 

@@ -1,6 +1,6 @@
 -- The rule holds of a new pool: no buffer, no grant, one seat.
-use Rattle.std.proofs.Common.{◌≡◌, ◌≢◌, ℕ, zero, suc, ◌+◌, ◌-◌, ◌*◌, ◌/◌, ◌%◌, ◌<◌, ◌≤◌, Bool, true, false, cond, List, [], ◌∷◌, ◌++◌, length, get_or, replicate, refl, sym, ap, ◌∙◌, subst, inl, inr, arith, eqb, ltb, eq-eqb, ne_eqb, zero-add}
-use Rattle.std.specs.Prelude.{Option, None, Some, IfSome}
+use Rattle.std.proofs.Common.{◌≡◌, ℕ, zero, suc, ◌+◌, ◌-◌, ◌*◌, ◌/◌, ◌%◌, ◌<◌, ◌≤◌, Bool, true, false, cond, List, [], ◌∷◌, ◌++◌, length, get_or, replicate, refl, sym, ap, ◌∙◌, subst, inl, inr, arith, eqb, ltb, eq-eqb, ne_eqb, zero-add}
+use Rattle.std.specs.Prelude.{Option, None, IfSome}
 use Rattle.std.specs.List.{count_by}
 use Rattle.std.specs.Int.{bit_at}
 use Rattle.std.proofs.lemmas.Bool.{cases_eq, cases_lt, lt-ltb, le-ltb}
@@ -8,17 +8,15 @@ use Rattle.std.proofs.lemmas.List.{get_or_past, get_or_append_left, get_or-appen
 use Rattle.std.proofs.lemmas.List.Sums.{sum_by-append}
 use Rattle.std.proofs.lemmas.Nat.Bits.{bit_at-zero}
 use Rattle.pool_model.specs.declared.buffer.Buffer.{Buffer}
-use Rattle.pool_model.specs.declared.pool.GrantedBlock.{GrantedBlock}
 use Rattle.pool_model.specs.Content.{Files}
-use Rattle.pool_model.specs.Pool.{buffer_at, grant_at, buffer_covers, grant_covers, owners, total}
+use Rattle.pool_model.specs.Pool.{buffer_at, buffer_covers, grant_covers, owners, total}
 use Rattle.pool_rule.specs.declared.geometry.Geometry.{Geometry}
 use Rattle.pool_rule.specs.declared.geometry.Setup.{Setup}
 use Rattle.pool_rule.specs.declared.view.Mark.{Mark}
-use Rattle.pool_rule.specs.declared.view.View.{View}
-use Rattle.pool_rule.specs.Headers.{IsHeader, HasContent, MarkFits, hold_count, state_of}
-use Rattle.pool_rule.specs.Layout.{headers_of, places_of, block_cells, header_word, cell_word, word_count}
-use Rattle.pool_rule.specs.Rule.{IsKept, IsStory, IsSeat, AreShared, AreBits, StandsFor, StandsForBuffer, view_at, has_number, first_pool, first_words, first_view, released_words, own_grant, cells_in, marks_of, count_of}
-use Rattle.pool_rule.specs.Seats.{mark_at, granted_at, spent, clear_mark, fresh_view, numbers_from}
+use Rattle.pool_rule.specs.Headers.{HasContent, MarkFits, hold_count, state_of}
+use Rattle.pool_rule.specs.Layout.{headers_of, places_of, block_cells, header_word, word_count}
+use Rattle.pool_rule.specs.Rule.{IsKept, IsSeat, StandsForBuffer, view_at, has_number, first_pool, first_words, first_view, released_words, own_grant, cells_in, count_of}
+use Rattle.pool_rule.specs.Seats.{mark_at, granted_at, spent, clear_mark, numbers_from}
 use Rattle.pool_rule.proofs.Seated.{fresh_has_nothing}
 
 -- ---- the words

@@ -1,5 +1,5 @@
 -- Steps that change no word and nothing in the pool: loads, and exchanges that fail.
-use Rattle.std.proofs.Common.{◌≡◌, ◌≢◌, ℕ, ◌+◌, ◌<◌, ◌≤◌, List, [], ◌∷◌, ◌++◌, length, get_or, set, refl, sym, ap, ◌∙◌, subst, arith}
+use Rattle.std.proofs.Common.{◌≡◌, ℕ, ◌<◌, List, [], ◌++◌, length, get_or, set, refl, sym, ap, ◌∙◌, subst, arith}
 use Rattle.std.specs.Prelude.{Option, None, Some, option_map, IfSome}
 use Rattle.std.proofs.lemmas.List.{set-get_or, append-nil}
 use mathlib.Core.Option.{some}
@@ -7,14 +7,14 @@ use lib.ListN.{get_elem?}
 use Rattle.pool_model.specs.declared.pool.PlainPool.{PlainPool}
 use Rattle.pool_model.specs.declared.step.Step.{Step}
 use Rattle.pool_model.specs.Content.{Files}
-use Rattle.pool_model.specs.Pool.{grant_at, buffer_at, total}
+use Rattle.pool_model.specs.Pool.{buffer_at}
 use Rattle.pool_rule.specs.declared.geometry.Setup.{Setup}
 use Rattle.pool_rule.specs.declared.view.Deed.{Deed}
 use Rattle.pool_rule.specs.declared.view.Mark.{Mark}
 use Rattle.pool_rule.specs.declared.view.View.{View}
-use Rattle.pool_rule.specs.Headers.{IsHeader, hold_count}
-use Rattle.pool_rule.specs.Layout.{headers_of, header_word, cell_word}
-use Rattle.pool_rule.specs.Rule.{IsKept, StandsFor, StandsForBuffer, AreBits, view_at, own_grant, cells_in, count_of, marks_of}
+use Rattle.pool_rule.specs.Headers.{hold_count}
+use Rattle.pool_rule.specs.Layout.{headers_of}
+use Rattle.pool_rule.specs.Rule.{IsKept, StandsFor, StandsForBuffer, AreBits, view_at, cells_in, count_of, marks_of}
 use Rattle.pool_rule.specs.Seats.{mark_at, granted_at, spent, noted, Told}
 use Rattle.pool_rule.proofs.Frame.{IsAlike, below, is_view, own, stands_after, header_again}
 use Rattle.pool_rule.proofs.Lists.{same_at, total-set}

@@ -1,23 +1,23 @@
 -- Seats are parted and joined: their numbers are shared out anew, and words and pool stay.
-use Rattle.std.proofs.Common.{◌≡◌, ◌≢◌, ℕ, zero, suc, ◌+◌, ◌-◌, ◌<◌, ◌≤◌, Bool, true, false, cond, List, [], ◌∷◌, ◌++◌, length, take, drop, get_or, set, replicate, refl, sym, ap, ◌∙◌, subst, inl, inr, arith, eqb, min}
-use Rattle.std.specs.Prelude.{Option, None, Some, IfSome}
+use Rattle.std.proofs.Common.{◌≡◌, ◌≢◌, ℕ, ◌+◌, ◌-◌, ◌<◌, ◌≤◌, Bool, cond, List, [], ◌∷◌, ◌++◌, length, take, drop, get_or, set, replicate, refl, sym, ap, ◌∙◌, subst, inl, inr, arith, eqb}
+use Rattle.std.specs.Prelude.{Option, None}
 use Rattle.std.specs.List.{count_by}
 use Rattle.std.proofs.lemmas.Bool.{cases_eq, cases_lt}
-use Rattle.std.proofs.lemmas.List.{get_or-set_same, get_or-set_other, get_or_past, get_or_append_left, get_or_push, length_push, length-set, length-take, length-drop, length-append, length-replicate, get_or-replicate, take-append-drop}
+use Rattle.std.proofs.lemmas.List.{get_or-set_same, get_or-set_other, get_or_past, get_or_append_left, get_or_push, length_push, length-set, length-take, length-drop, length-append, length-replicate, get_or-replicate}
 use Rattle.std.proofs.lemmas.List.Sums.{sum_by-append, sum_by-take-drop}
 use mathlib.Core.Option.{some}
 use lib.ListN.{get_elem?}
 use Rattle.pool_model.specs.declared.pool.PlainPool.{PlainPool}
 use Rattle.pool_model.specs.declared.step.Step.{Step}
 use Rattle.pool_model.specs.Content.{Files}
-use Rattle.pool_model.specs.Pool.{buffer_at, grant_at, total}
+use Rattle.pool_model.specs.Pool.{buffer_at, total}
 use Rattle.pool_rule.specs.declared.geometry.Geometry.{Geometry}
 use Rattle.pool_rule.specs.declared.geometry.Setup.{Setup}
 use Rattle.pool_rule.specs.declared.view.Mark.{Mark}
 use Rattle.pool_rule.specs.declared.view.View.{View}
 use Rattle.pool_rule.specs.Headers.{hold_count}
 use Rattle.pool_rule.specs.Layout.{headers_of, places_of}
-use Rattle.pool_rule.specs.Rule.{IsKept, IsStory, IsSeat, AreShared, StandsFor, StandsForBuffer, view_at, has_number, steps_of, own_grant, cells_in, count_of, marks_of}
+use Rattle.pool_rule.specs.Rule.{IsKept, IsSeat, AreShared, StandsFor, view_at, has_number, cells_in, count_of, marks_of}
 use Rattle.pool_rule.specs.Seats.{HasNothing, mark_at, granted_at, spent, clear_mark, fresh_view, parted, part_of, joined}
 use Rattle.pool_rule.proofs.Frame.{below, is_view, own, header_again}
 use Rattle.pool_rule.proofs.Lists.{elem_below, elem_is, same_at, total-set, total-snoc}

@@ -1,6 +1,6 @@
 -- After a step the seat is still of its table.
-use Rattle.std.proofs.Common.{◌≡◌, ℕ, ◌+◌, ◌-◌, ◌<◌, List, [], length, take, drop, refl, sym, ap, ◌∙◌, subst, arith, min}
-use Rattle.std.specs.Prelude.{Option, Some, None}
+use Rattle.std.proofs.Common.{◌≡◌, ℕ, ◌-◌, ◌<◌, length, refl, sym, ap, ◌∙◌, subst, arith}
+use Rattle.std.specs.Prelude.{Some, None}
 use Rattle.std.proofs.lemmas.List.{length-set, length-take, length-drop, length-append, length-replicate}
 use Rattle.atomic_table.specs.Seated.{TableId}
 use Rattle.pool_model.specs.declared.block.Block.{Block}
@@ -12,8 +12,8 @@ use Rattle.pool_rule.specs.declared.view.Deed.{Deed}
 use Rattle.pool_rule.specs.declared.view.View.{View}
 use Rattle.pool_rule.specs.Layout.{headers_of, places_of}
 use Rattle.pool_rule.specs.Rule.{first_view}
-use Rattle.pool_rule.specs.Seats.{mark_at, clear_mark, noted, with_step, with_granted, with_key, mark_with_key, key_of, parted, part_of, joined, numbers_from}
-use Rattle.pool_rule.specs.Words.{Sitting, view, IsLive, IsSeatAt, IsStill, learnt, taking, giving}
+use Rattle.pool_rule.specs.Seats.{mark_at, clear_mark, noted, with_step, with_granted, with_key, mark_with_key, key_of, parted, part_of, joined}
+use Rattle.pool_rule.specs.Words.{Sitting, IsLive, IsSeatAt, IsStill, learnt, taking, giving}
 use Rattle.pool_rule.proofs.Opening.{length-numbers}
 
 pub still : (table : TableId) (g : Geometry) (old new : Sitting) (w : View) → IsSeatAt table g old → new.table_id ≡ old.table_id → new.id ≡ old.id → new.me ≡ (w, old.me.1) → IsLive g w → IsStill table g old new

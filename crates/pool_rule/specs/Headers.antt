@@ -1,5 +1,5 @@
 -- When the words of a header, and what each seat has of it, stand for its buffer. Source: this project's own.
-use Rattle.std.specs.Prelude.{◌≡◌, ◌≢◌, ℕ, ◌+◌, ◌*◌, ◌/◌, ◌<◌, List, length, Option, None, Some, IfSome, IsSomeAnd, slice_index}
+use Rattle.std.specs.Prelude.{◌≡◌, ℕ, ◌+◌, ◌*◌, ◌<◌, List, length, Option, None, Some, IfSome, IsSomeAnd, slice_index}
 use Rattle.pool_model.specs.declared.block.Block.{Block}
 use Rattle.pool_model.specs.declared.buffer.Buffer.{Buffer}
 use Rattle.pool_model.specs.declared.buffer.BufferKey.{BufferKey}

@@ -5,3 +5,4 @@ pub mod Rule
 pub mod Plays
 pub mod Words
 pub mod Tables
+pub mod Laws

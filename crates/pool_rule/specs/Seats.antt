@@ -1,10 +1,8 @@
 -- What a seat knows and has, and what its steps make of that. Source: this project's own.
-use Rattle.std.specs.Prelude.{◌≡◌, ℕ, ◌+◌, ◌-◌, ◌*◌, ◌/◌, ◌%◌, ◌^◌, zero, suc, List, [], ◌∷◌, ◌++◌, length, take, drop, replicate, Option, None, Some, option_map, IfSome, slice_index, slice_index_or, slice_set}
-use Rattle.pool_model.specs.declared.block.Block.{Block}
+use Rattle.std.specs.Prelude.{◌≡◌, ℕ, ◌+◌, ◌-◌, ◌/◌, ◌%◌, ◌^◌, zero, suc, List, [], ◌∷◌, ◌++◌, length, take, drop, replicate, Option, None, Some, option_map, IfSome, slice_index, slice_index_or, slice_set}
 use Rattle.pool_model.specs.declared.buffer.BufferKey.{BufferKey}
 use Rattle.pool_model.specs.declared.step.Step.{Step}
 use Rattle.pool_rule.specs.declared.geometry.Geometry.{Geometry}
-use Rattle.pool_rule.specs.declared.geometry.Setup.{Setup}
 use Rattle.pool_rule.specs.declared.view.Claim.{Claim}
 use Rattle.pool_rule.specs.declared.view.Claim.TheVariants.{Unclaimed, Fresh, Gone, Carried}
 use Rattle.pool_rule.specs.declared.view.Deed.{Deed}

@@ -8,6 +8,7 @@
 
 mod geometry;
 mod laid;
+pub mod laws;
 mod lost;
 mod plays;
 mod rule;

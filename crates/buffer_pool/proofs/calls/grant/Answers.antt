@@ -1,4 +1,4 @@
-use Rattle.std.proofs.Common.{◌≡◌, ◌≢◌, ℕ, ◌/◌, ◌<◌, List, [], ◌∷◌, ◌++◌, length, refl, sym, subst, ap, ◌∙◌, bit_and, bit_or, arith}
+use Rattle.std.proofs.Common.{◌≡◌, ◌≢◌, ℕ, ◌/◌, sym, subst, bit_or, arith}
 use Rattle.pool_rule.specs.declared.view.View.{View}
 use Rattle.std.specs.Prelude.{Some, Result, Ok, Err, OnOk, IfErr}
 use Rattle.pool_rule.specs.declared.lost.LostGrant.{LostGrant}
@@ -7,8 +7,7 @@ use Rattle.pool_rule.specs.Words.{mask_of, took, missed}
 use Rattle.pool_model.specs.declared.block.Block.{Block}
 use Rattle.buffer_pool.specs.Bids.{HasNoBid}
 use Rattle.buffer_pool.specs.Calls.{Steps, KeepsAll, KeepsOthers, grant_step, exchange_of, miss_of}
-use Rattle.buffer_pool.specs.Pools.{view, seat_id, block_at, sizes_of}
-use Rattle.pool_rule.specs.Layout.{places_of}
+use Rattle.buffer_pool.specs.Pools.{view, seat_id, block_at}
 use Rattle.std.proofs.lemmas.Nat.{pow_pos}
 use Rattle.buffer_pool.proofs.Views.{took_bids, took_steps, took_others, took_block, missed_bids, missed_steps, missed_all}
 use Rattle.buffer_pool.proofs.calls.grant.Goals as goal

@@ -1,4 +1,4 @@
-use Rattle.std.proofs.Common.{◌≡◌, ℕ, ◌/◌, ◌<◌, List, [], ◌∷◌, ◌++◌, length, refl, sym, subst, ap, ◌∙◌, bit_and, bit_or, arith}
+use Rattle.std.proofs.Common.{sym, subst}
 use Rattle.pool_rule.specs.declared.view.View.{View}
 use Rattle.pool_rule.specs.Layout.{index_of}
 use Rattle.buffer_pool.specs.Bids.{HasNoBid}

@@ -1,7 +1,7 @@
-use Rattle.std.proofs.Common.{◌≡◌, ℕ, ◌/◌, ◌<◌, List, [], ◌∷◌, ◌++◌, length, refl, sym, subst, ap, ◌∙◌, bit_and, bit_or, arith}
+use Rattle.std.proofs.Common.{◌≡◌, [], ◌∷◌, ◌++◌, length, sym, subst}
 use Rattle.pool_rule.specs.declared.view.View.{View}
 use Rattle.pool_rule.specs.declared.view.Event.TheVariants.{Parted}
-use Rattle.pool_rule.specs.Seats.{HasNothing, parted, part_of}
+use Rattle.pool_rule.specs.Seats.{HasNothing}
 use Rattle.buffer_pool.specs.Bids.{HasNoBid}
 use Rattle.buffer_pool.specs.Calls.{KeepsAll}
 use Rattle.buffer_pool.specs.Pools.{view}

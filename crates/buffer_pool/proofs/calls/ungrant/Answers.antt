@@ -1,9 +1,9 @@
-use Rattle.std.proofs.Common.{◌≡◌, ◌≢◌, ℕ, ◌/◌, ◌<◌, List, [], ◌∷◌, ◌++◌, length, refl, sym, subst, ap, ◌∙◌, bit_and, bit_or, arith}
+use Rattle.std.proofs.Common.{◌≡◌, ◌/◌, sym, subst, bit_and, arith}
 use Rattle.pool_rule.specs.declared.view.View.{View}
 use Rattle.std.specs.Prelude.{None}
 use Rattle.std.specs.Int.{w64, bit_not}
 use Rattle.pool_rule.specs.Seats.{granted_at}
-use Rattle.pool_rule.specs.Words.{mask_of, gave}
+use Rattle.pool_rule.specs.Words.{mask_of}
 use Rattle.buffer_pool.specs.Bids.{HasNoBid}
 use Rattle.buffer_pool.specs.Calls.{Steps, KeepsOthers, ungrant_step, mask_out_of}
 use Rattle.buffer_pool.specs.Pools.{view, seat_id, block_of}

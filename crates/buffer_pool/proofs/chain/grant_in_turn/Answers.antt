@@ -1,4 +1,4 @@
-use Rattle.std.proofs.Common.{◌≡◌, ◌≢◌, ℕ, ◌/◌, ◌<◌, List, [], ◌∷◌, ◌++◌, get_or, refl, sym, subst, ap, ◌∙◌, bit_and, bit_or, arith}
+use Rattle.std.proofs.Common.{◌≡◌, ◌≢◌, ℕ, ◌/◌, List, [], ◌∷◌, ◌++◌, get_or, refl, subst, ap, ◌∙◌, bit_and, bit_or, arith}
 use Rattle.std.specs.Prelude.{Option, None, Some}
 use Rattle.pool_rule.specs.declared.view.Event.{Event}
 use Rattle.buffer_pool.specs.Chain.{IsWorkedTrail}

@@ -1,4 +1,4 @@
-use Rattle.std.proofs.Common.{◌≡◌, ◌≢◌, ℕ, ◌/◌, refl, sym, ap, ◌∙◌, subst, inl, inr, bit_or, arith}
+use Rattle.std.proofs.Common.{◌≡◌, ℕ, ◌/◌, sym, ap, ◌∙◌, subst, inl, inr, bit_or, arith}
 use Rattle.std.specs.Prelude.{◌==◌}
 use Rattle.std.proofs.lemmas.Bool.{cases_eq}
 use mathlib.Core.Option.{none}
@@ -8,11 +8,11 @@ use Rattle.pool_model.specs.Block.{IsBlock}
 use Rattle.pool_rule.specs.declared.geometry.Geometry.{Geometry}
 use Rattle.pool_rule.specs.declared.view.Deed.TheVariants.{Exchanged, Failed}
 use Rattle.pool_rule.specs.declared.view.View.{View}
-use Rattle.pool_rule.specs.Layout.{places_of, word_count}
+use Rattle.pool_rule.specs.Layout.{places_of}
 use Rattle.pool_rule.specs.Plays.{exchanges}
 use Rattle.pool_rule.specs.Rule.{IsKept}
 use Rattle.pool_rule.specs.Seats.{noted}
-use Rattle.pool_rule.specs.Words.{taking, mask_of}
+use Rattle.pool_rule.specs.Words.{taking}
 use Rattle.pool_rule.proofs.Allowed.{take_allowed}
 use Rattle.pool_rule.proofs.Blocks.{place_below}
 use Rattle.pool_rule.proofs.Sitting.{still, noted_live, taking_live}

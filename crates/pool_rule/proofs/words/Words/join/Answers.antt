@@ -1,5 +1,4 @@
-use Rattle.std.proofs.Common.{◌≡◌, ◌<◌, arith}
-use Rattle.pool_rule.specs.Layout.{word_count}
+use Rattle.std.proofs.Common.{arith}
 use Rattle.pool_rule.specs.Seats.{joined}
 use Rattle.pool_rule.proofs.Allowed.{join_allowed}
 use Rattle.pool_rule.proofs.Sitting.{still, joined_live}

@@ -1,4 +1,4 @@
-use Rattle.std.proofs.Common.{◌≡◌, ℕ, ◌/◌, ◌^◌, ◌<◌, refl, sym, ap, ◌∙◌, subst, bit_and, arith}
+use Rattle.std.proofs.Common.{◌≡◌, ℕ, ◌/◌, sym, ap, ◌∙◌, subst, bit_and, arith}
 use Rattle.std.specs.Int.{w64, bit_not}
 use mathlib.Core.Option.{none}
 use Rattle.atomic_table.specs.Table.{Allows, step}
@@ -6,11 +6,11 @@ use Rattle.pool_model.specs.Block.{IsBlock}
 use Rattle.pool_rule.specs.declared.geometry.Geometry.{Geometry}
 use Rattle.pool_rule.specs.declared.view.Deed.TheVariants.{Changed}
 use Rattle.pool_rule.specs.declared.view.View.{View}
-use Rattle.pool_rule.specs.Layout.{places_of, word_count}
+use Rattle.pool_rule.specs.Layout.{places_of}
 use Rattle.pool_rule.specs.Plays.{masks}
 use Rattle.pool_rule.specs.Rule.{IsKept}
 use Rattle.pool_rule.specs.Seats.{noted}
-use Rattle.pool_rule.specs.Words.{giving, mask_of}
+use Rattle.pool_rule.specs.Words.{giving}
 use Rattle.pool_rule.proofs.Allowed.{give_allowed}
 use Rattle.pool_rule.proofs.Blocks.{place_below}
 use Rattle.pool_rule.proofs.Sitting.{still, noted_live, giving_live}

@@ -1,0 +1,26 @@
+//! What the rule says of the pool for which words and views stand.
+//!
+//! No function here does anything: each contract is a law.
+
+ghost use Rattle.pool_rule.specs.Laws.{APoolIsLawful, StateWordsUnpack, ClearBitsAreFree};
+
+/// The pool is lawful.
+pub fn a_pool_is_lawful()
+    ensures { APoolIsLawful }
+{
+    pool_model::laws::every_run_is_lawful();
+}
+
+/// Each state word unpacks, and its count is the number of seats that have a pin or a bid on the header: 64 at most.
+pub fn state_words_unpack()
+    ensures { StateWordsUnpack }
+{
+    pool_model::laws::every_run_is_lawful();
+}
+
+/// A bit of an arena's word is clear exactly where no block, target or grant has that minimum block.
+pub fn clear_bits_are_free()
+    ensures { ClearBitsAreFree }
+{
+    pool_model::laws::owners_are_parts();
+}
