@@ -1,0 +1,3 @@
+mod Decoders
+mod Optional
+mod FlagBatches

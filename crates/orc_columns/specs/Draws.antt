@@ -1,0 +1,77 @@
+-- What a call on a column's streams does: from which streams it took, and what it makes of their bytes.
+use Rattle.std.specs.Prelude.{◌≡◌, ℕ, ◌⊎◌, List, [], ◌∷◌, Option, Some, None, Result, Ok, Err}
+use Rattle.std.specs.List.{AllByRecursion}
+use Rattle.outside.specs.Cause.{Cause}
+use Rattle.outside.specs.Feed.{Taken}
+use Rattle.orc_columns.specs.declared.fault.ColumnFault.{ColumnFault}
+use Rattle.orc_columns.specs.declared.fault.ColumnFault.TheVariants.{BadEncoding, Run, NegativeLength, LengthsPastData, IndexOutOfDictionary, Read, NoMemory}
+use Rattle.orc_columns.specs.declared.plan.ColumnPlan.{ColumnPlan}
+use Rattle.orc_columns.specs.Column.{Streams}
+use Rattle.orc_columns.specs.Optional.{rest_in}
+
+-- the number of one of the plan's streams
+abbrev pub IsOfPlan : ColumnPlan → ℕ → Type 0
+IsOfPlan plan stream = (plan.present ≡ Some stream) ⊎ (plan.body ≡ Some stream) ⊎ (plan.length ≡ Some stream) ⊎ (plan.dictionary ≡ Some stream)
+
+-- all takes are of the plan's streams
+abbrev pub AllOfPlan : ColumnPlan → List Taken → Type 0
+AllOfPlan plan takes = AllByRecursion (λ t. IsOfPlan plan t.stream) takes
+
+-- two streams, where they are there, have different numbers
+abbrev pub Differ : Option ℕ → Option ℕ → Type 0
+Differ a b = (stream : ℕ) → a ≡ Some stream → b ≡ Some stream → ⊥
+
+-- the plan's streams have different numbers
+pub record StreamsDiffer (plan : ColumnPlan) : Type 0 where
+  pub present_body : Differ plan.present plan.body
+  pub present_length : Differ plan.present plan.length
+  pub present_dictionary : Differ plan.present plan.dictionary
+  pub body_length : Differ plan.body plan.length
+  pub body_dictionary : Differ plan.body plan.dictionary
+  pub length_dictionary : Differ plan.length plan.dictionary
+
+-- a feed tells the plan's streams, and these bytes are left of them
+pub record Tells {F : Type 0} (rest : F → ℕ → Option (List ℕ)) (feed : F) (plan : ColumnPlan) (s : Streams) : Type 0 where
+  pub present : rest_in rest feed plan.present ≡ Some s.present
+  pub body : rest_in rest feed plan.body ≡ Some s.body
+  pub lengths : rest_in rest feed plan.length ≡ Some s.lengths
+  pub dictionary : rest_in rest feed plan.dictionary ≡ Some s.dictionary
+
+-- the feed failed
+abbrev pub IsReadError : ColumnFault → Type 0
+IsReadError (Read failed) = Unit {0}
+IsReadError NoMemory = ⊥
+IsReadError BadEncoding = ⊥
+IsReadError (Run name fault) = ⊥
+IsReadError NegativeLength = ⊥
+IsReadError LengthsPastData = ⊥
+IsReadError IndexOutOfDictionary = ⊥
+
+abbrev pub FailedToRead : {Y : Type 0} → Result Y ColumnFault → Type 0
+FailedToRead (Ok y) = ⊥
+FailedToRead (Err fault) = IsReadError fault
+
+-- this is so of a fault, unless the feed failed or memory was refused
+abbrev pub Decided : (ColumnFault → Type 0) → ColumnFault → Type 0
+Decided Faults (Read failed) = Unit {0}
+Decided Faults NoMemory = Unit {0}
+Decided Faults BadEncoding = Faults BadEncoding
+Decided Faults (Run name fault) = Faults (Run name fault)
+Decided Faults NegativeLength = Faults NegativeLength
+Decided Faults LengthsPastData = Faults LengthsPastData
+Decided Faults IndexOutOfDictionary = Faults IndexOutOfDictionary
+
+module _ {F Y : Type 0} (rest : F → ℕ → Option (List ℕ)) (fed : F → List Taken → F → Type 0) (count : F → ℕ) (plan : ColumnPlan) where
+  -- what is said of an answer, of the bytes that were left before
+  abbrev pub Said : (Streams → Streams → Y → Type 0) → (Streams → ColumnFault → Type 0) → Streams → F → Result Y ColumnFault → Type 0
+  Said Goes Faults before last (Ok y) = (after : Streams) × Tells rest last plan after × Goes before after y
+  Said Goes Faults before last (Err fault) = Decided (Faults before) fault
+
+  -- A call took from the plan's streams alone, a failed read has its cause, and where the streams were told, an Ok says
+  -- this of the bytes before and after, and a fault that of those before.
+  pub record Draws (first last : F) (Goes : Streams → Streams → Y → Type 0) (Faults : Streams → ColumnFault → Type 0) (answer : Result Y ColumnFault) : Type 0 where
+    pub takes : List Taken
+    pub led : fed first takes last
+    pub own : AllOfPlan plan takes
+    pub cause : Cause (count first) (count last) (FailedToRead answer)
+    pub told : (before : Streams) → Tells rest first plan before → Said Goes Faults before last answer

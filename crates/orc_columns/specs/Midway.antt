@@ -1,0 +1,48 @@
+-- A reader of a column between two batches. Source: this project's own.
+use Rattle.std.specs.Prelude.{◌≡◌, ℕ, ◌<◌, ◌≤◌, Bool, true, false, List, length, map, drop, sum, Option, All, ℤ, pos}
+use Rattle.outside.specs.Runs.{Between}
+use Rattle.orc_rle.specs.BitRun.{BitRun}
+use Rattle.orc_values.specs.declared.value.Value.{Value}
+use Rattle.orc_values.specs.declared.value.Value.TheVariants as value
+use Rattle.orc_values.specs.Texts.{slices}
+use Rattle.orc_values.specs.Woven.{present_count}
+use Rattle.orc_columns.specs.declared.fault.ColumnFault.{ColumnFault}
+use Rattle.orc_columns.specs.declared.plan.ColumnPlan.{ColumnPlan}
+use Rattle.orc_columns.specs.declared.value_reader.ValueReader.{ValueReader}
+use Rattle.orc_columns.specs.declared.value_reader.ValueReader.TheVariants as reader
+use Rattle.orc_columns.specs.Column.{Streams, AreLengths, entry_text, places_of, rows_of}
+use Rattle.orc_columns.specs.Decoders.{PresentOf}
+use Rattle.orc_columns.specs.Present.{PresentBetween}
+use Rattle.orc_columns.specs.Spelling.{IntRun}
+
+-- Of a column's streams these values that aren't null were given, and so many bytes are left: the runs that spell them are
+-- the fewest; a direct text's bytes are those of the lengths; a dictionary was read whole.
+abbrev pub ValuesBetween : ℕ → Streams → List Value → ValueReader → Streams → Type 0
+ValuesBetween size start given (reader.Bits b) rest =
+    (bits : List Bool) × Between BitRun start.body bits b.held rest.body × (given ≡ map (λ b. value.Bool b) bits)
+ValuesBetween size start given (reader.Integers i) rest =
+    (numbers : List ℤ) × Between (IntRun i.version true) start.body numbers i.held rest.body × (given ≡ map (λ n. value.Int n) numbers)
+ValuesBetween size start given (reader.Texts t) rest =
+    (lengths : List ℕ) × Between (IntRun t.lengths.version false) start.lengths (map pos lengths) t.lengths.held rest.lengths
+    × (sum lengths ≤ length start.body) × (t.used ≡ sum lengths) × (t.limit ≡ length start.body) × (rest.body ≡ drop (sum lengths) start.body)
+    × (given ≡ map (λ t. value.Text t) (slices 0 lengths start.body))
+ValuesBetween size start given (reader.Dictionary d) rest =
+    (lengths : List ℕ) × (numbers : List ℤ) × (length lengths ≡ size) × AreLengths d.places.version start.lengths (length start.dictionary) lengths
+    × (d.entries ≡ slices 0 lengths start.dictionary) × Between (IntRun d.places.version false) start.body numbers d.places.held rest.body
+    × All (λ place. place < size) (places_of numbers) × (given ≡ map (entry_text d.entries) (places_of numbers))
+
+-- what contracts see of a reader: its plan, its flags and values, and the fault that it has answered
+pub record ReaderOf : Type 0 where
+  pub plan : ColumnPlan
+  pub present : PresentOf
+  pub values : ValueReader
+  pub fault : Option ColumnFault
+
+-- Of a column's streams these rows were given, and so many bytes are left.
+pub record Midway (r : ReaderOf) (start : Streams) (given : List Value) (rest : Streams) : Type 0 where
+  pub flags : List Bool
+  pub values : List Value
+  pub present : PresentBetween r.present.state start.present flags r.present.held rest.present
+  pub enough : length values ≡ present_count flags
+  pub standing : ValuesBetween r.plan.dictionary_size start values r.values rest
+  pub rows_are : given ≡ rows_of flags values

@@ -1,0 +1,65 @@
+//! Why a column can't be read.
+ghost use Rattle.std.specs.Prelude.{◌≡◌};
+ghost use Rattle.orc_columns.specs.declared.fault.ColumnFault.TheVariants.{Read, NoMemory};
+
+use outside::{Failed, RunFault};
+use std::alloc::{AllocError, AllocFailed};
+
+/// A stream of a column that is made of runs.
+#[derive(Clone, Copy, Debug, PartialEq, Eq)]
+pub enum StreamName {
+    /// PRESENT.
+    Present,
+    /// DATA.
+    Body,
+    /// LENGTH.
+    Length,
+}
+
+/// The first condition that refuses a column of a stripe, or what kept it from being read.
+///
+/// The conditions stand in the order in which they are judged, each over all rows: the encoding, PRESENT, LENGTH,
+/// negative lengths, lengths past the data, DATA, and the numbers of dictionary entries. That order is this project's own.
+///
+/// Source: Apache ORC specification v1, "Column Encodings".
+#[derive(Clone, Copy, Debug, PartialEq, Eq)]
+pub enum ColumnFault {
+    /// There is no encoding, or the column's kind hasn't this one.
+    BadEncoding,
+    /// A run of this stream isn't whole. The run's fault is never `RunFault::Read`.
+    Run(StreamName, RunFault),
+    /// A length has its 64th bit set.
+    NegativeLength,
+    /// The lengths have more bytes together than the texts' stream.
+    LengthsPastData,
+    /// The number of an entry isn't below the dictionary's size.
+    IndexOutOfDictionary,
+    /// The feed failed.
+    Read(Failed),
+    /// Memory was refused.
+    NoMemory,
+}
+
+impl From<Failed> for ColumnFault {
+    ghost from_gives = { λ failed e. e ≡ Read failed };
+
+    fn from(failed: Failed) -> ColumnFault {
+        ColumnFault::Read(failed)
+    }
+}
+
+impl From<AllocError> for ColumnFault {
+    ghost from_gives = { λ _ e. e ≡ NoMemory };
+
+    fn from(_error: AllocError) -> ColumnFault {
+        ColumnFault::NoMemory
+    }
+}
+
+impl<T: Drop> From<AllocFailed<T>> for ColumnFault {
+    ghost from_gives = { λ _ e. e ≡ NoMemory };
+
+    fn from(_error: AllocFailed<T>) -> ColumnFault {
+        ColumnFault::NoMemory
+    }
+}

@@ -1,0 +1,17 @@
+//! Columns of a stripe: their values, decoded from streams.
+#![tactic(auto)]
+
+mod bit_stream;
+mod fault;
+mod integers;
+mod plan;
+mod present;
+mod spelling;
+mod value_reader;
+
+pub use fault::{ColumnFault, StreamName};
+pub use plan::ColumnPlan;
+pub use spelling::{Spelling, Version, spelling_of};
+
+
+pub use orc_values::{Column, ColumnValues, Columns, Texts, Value, ValueRef};
