@@ -1,3 +1,4 @@
 mod Decoders
-mod Optional
+mod Drawing
 mod FlagBatches
+mod Optional

@@ -1,10 +1,15 @@
 -- What a call on a column's streams does: from which streams it took, and what it makes of their bytes.
-use Rattle.std.specs.Prelude.{◌≡◌, ℕ, ◌⊎◌, List, [], ◌∷◌, Option, Some, None, Result, Ok, Err}
+use Rattle.std.specs.Prelude.{◌≡◌, ℕ, ◌+◌, ◌⊎◌, List, [], ◌∷◌, ◌++◌, length, Option, Some, None, Result, Ok, Err}
 use Rattle.std.specs.List.{AllByRecursion}
+use Rattle.outside.specs.declared.run_fault.RunFault.{RunFault}
+use Rattle.outside.specs.declared.run_fault.RunFault.TheVariants as run
 use Rattle.outside.specs.Cause.{Cause}
 use Rattle.outside.specs.Feed.{Taken}
+use Rattle.outside.specs.Reading.{Reader}
+use Rattle.outside.specs.Runs.{Between, Breaks}
 use Rattle.orc_columns.specs.declared.fault.ColumnFault.{ColumnFault}
 use Rattle.orc_columns.specs.declared.fault.ColumnFault.TheVariants.{BadEncoding, Run, NegativeLength, LengthsPastData, IndexOutOfDictionary, Read, NoMemory}
+use Rattle.orc_columns.specs.declared.fault.StreamName.{StreamName}
 use Rattle.orc_columns.specs.declared.plan.ColumnPlan.{ColumnPlan}
 use Rattle.orc_columns.specs.Column.{Streams}
 use Rattle.orc_columns.specs.Optional.{rest_in}
@@ -75,3 +80,39 @@ module _ {F Y : Type 0} (rest : F → ℕ → Option (List ℕ)) (fed : F → Li
     pub own : AllOfPlan plan takes
     pub cause : Cause (count first) (count last) (FailedToRead answer)
     pub told : (before : Streams) → Tells rest first plan before → Said Goes Faults before last answer
+
+-- ---- a step on one stream
+
+-- the fault of a column by that of a run in one of its streams
+abbrev pub of_run : StreamName → RunFault → ColumnFault
+of_run name (run.Read failed) = Read failed
+of_run name run.StreamEnds = Run name run.StreamEnds
+of_run name run.LongVarint = Run name run.LongVarint
+of_run name run.PatchOutOfRun = Run name run.PatchOutOfRun
+of_run name run.PatchTooWide = Run name run.PatchTooWide
+
+abbrev pub in_stream : {Y : Type 0} → StreamName → Result Y RunFault → Result Y ColumnFault
+in_stream name (Ok y) = Ok y
+in_stream name (Err fault) = Err (of_run name fault)
+
+-- no stream but this one lost a byte
+abbrev pub OnlyPresent : Streams → Streams → Type 0
+OnlyPresent before after = (after.body ≡ before.body) × (after.lengths ≡ before.lengths) × (after.dictionary ≡ before.dictionary)
+
+abbrev pub OnlyBody : Streams → Streams → Type 0
+OnlyBody before after = (after.present ≡ before.present) × (after.lengths ≡ before.lengths) × (after.dictionary ≡ before.dictionary)
+
+abbrev pub OnlyLengths : Streams → Streams → Type 0
+OnlyLengths before after = (after.present ≡ before.present) × (after.body ≡ before.body) × (after.dictionary ≡ before.dictionary)
+
+abbrev pub OnlyDictionary : Streams → Streams → Type 0
+OnlyDictionary before after = (after.present ≡ before.present) × (after.body ≡ before.body) × (after.lengths ≡ before.lengths)
+
+-- a decoder of this stream goes on with these values
+abbrev pub GoesOn : {V : Type 0} → (List ℕ → List V → Type 0) → List V → List V → List ℕ → List ℕ → List V → Type 0
+GoesOn {V} Form old new before after values = (start : List ℕ) (given : List V) → Between Form start given old before → Between Form start (given ++ values) new after
+
+-- the fault is that of a run of this stream, which breaks before so many values more
+abbrev pub BreaksOn : {V : Type 0} → (List ℕ → List V → Type 0) → Reader (List V) → StreamName → List V → ℕ → List ℕ → ColumnFault → Type 0
+BreaksOn {V} Form read name old asked before fault =
+    (broken : RunFault) × (fault ≡ Run name broken) × ((start : List ℕ) (given : List V) → Between Form start given old before → Breaks Form read start (length given + asked) broken)

@@ -8,6 +8,9 @@ use Rattle.outside.specs.Filling.{BreaksWith}
 use Rattle.outside.specs.Reading.{IsReadFault}
 use Rattle.outside.specs.Runs.{Between}
 use Rattle.orc_rle.specs.BitRun.{BitRun, bit_run}
+use Rattle.orc_columns.specs.declared.fault.ColumnFault.{ColumnFault}
+use Rattle.orc_columns.specs.declared.fault.ColumnFault.TheVariants.{Run}
+use Rattle.orc_columns.specs.declared.fault.StreamName.TheVariants as name
 use Rattle.orc_columns.specs.declared.present.PresentState.{PresentState}
 use Rattle.orc_columns.specs.declared.present.PresentState.TheVariants.{Unread, Empty, Flags}
 use Rattle.orc_columns.specs.Column.{PresentBreaks}
@@ -41,3 +44,12 @@ pub record PresentFills {F : Type 0} (rest : F → ℕ → Option (List ℕ)) (f
   pub own : AllIn old.stream takes
   pub cause : Cause (count first) (count last) (IsErrAnd answer IsReadFault)
   pub told : (bytes : List ℕ) → rest_in rest first old.stream ≡ Some bytes → PresentContinues old new asked bytes (rest_in rest last old.stream) answer
+
+-- the flags of PRESENT go on with these
+abbrev pub PresentGoesOn : PresentOf → PresentOf → List ℕ → List ℕ → List Bool → Type 0
+PresentGoesOn old new before after flags = (start : List ℕ) (given : List Bool) → PresentBetween old.state start given old.held before → PresentBetween new.state start (given ++ flags) new.held after
+
+-- the fault is that of a run of PRESENT, which breaks before so many flags more
+abbrev pub PresentBreaksOn : PresentOf → ℕ → List ℕ → ColumnFault → Type 0
+PresentBreaksOn old asked before fault =
+    (broken : RunFault) × (fault ≡ Run name.Present broken) × ((start : List ℕ) (given : List Bool) → PresentBetween old.state start given old.held before → PresentBreaks start (length given + asked) broken)

@@ -1,5 +1,6 @@
 //! Why a column can't be read.
 ghost use Rattle.std.specs.Prelude.{◌≡◌};
+ghost use Rattle.orc_columns.specs.Draws.{of_run};
 ghost use Rattle.orc_columns.specs.declared.fault.ColumnFault.TheVariants.{Read, NoMemory};
 
 use outside::{Failed, RunFault};
@@ -61,5 +62,15 @@ impl<T: Drop> From<AllocFailed<T>> for ColumnFault {
 
     fn from(_error: AllocFailed<T>) -> ColumnFault {
         ColumnFault::NoMemory
+    }
+}
+
+/// The fault of a column by the fault of a run in one of its streams.
+pub(crate) fn of_run(name: StreamName, fault: RunFault) -> ColumnFault
+    ensures { result ≡ of_run name fault }
+{
+    match fault {
+        RunFault::Read(failed) => ColumnFault::Read(failed),
+        _ => ColumnFault::Run(name, fault),
     }
 }
