@@ -244,6 +244,7 @@ module _ {F : Type 0} (rest : F → ℕ → Option (List ℕ)) (fed : F → List
         where
           own : AllIn plan.present filled.takes
           own = subst (λ (s : Option ℕ). AllIn s filled.takes) stream_is filled.own
+
           said : (before : Streams) → Tells rest first plan before → (answer : Result (List Bool) RunFault) → PresentContinues old new asked before.present (rest_in rest last plan.present) answer
               → Said rest fed count plan (λ b a flags. OnlyPresent b a × PresentGoesOn old new b.present a.present flags) (λ b fault. PresentBreaksOn old asked b.present fault) before last (in_stream name.Present answer)
           said before tells (Ok flags) (left, is, goes) = (

@@ -70,14 +70,17 @@ module _ {F : Type 0} (rest : F → ℕ → Option (List ℕ)) (fed : F → List
         own = f.own;
         cause = f.cause;
         told = λ bytes told.
-            let after = f.told bytes told in
-            (after.0, after.1, λ start given at.
-            let none : given ≡ [] = at.0 in
-            let held : d.held ≡ [] = at.1 in
-            let start_is : bytes ≡ start = at.2 in
-            let whole : Between BitRun start [] [] start = Between-start BitRun start in
-            let before : Between BitRun start given d.held bytes = rw (none, held, start_is) whole in
-            ((λ empty. let no : AnswersEmpty (Ok true) = filled.empty bytes (rw same told) (held, some, start_is ∙ empty) in absurd no), after.2 start given before));
+            let after = f.told bytes told in (
+              after.0,
+              after.1,
+              λ start given at.
+                  let none : given ≡ [] = at.0 in
+                  let held : d.held ≡ [] = at.1 in
+                  let start_is : bytes ≡ start = at.2 in
+                  let whole : Between BitRun start [] [] start = Between-start BitRun start in
+                  let before : Between BitRun start given d.held bytes = rw (none, held, start_is) whole in
+                  ((λ empty. let no : AnswersEmpty (Ok true) = filled.empty bytes (rw same told) (held, some, start_is ∙ empty) in absurd no), after.2 start given before),
+            );
       }
 
   -- the first flags break
@@ -115,6 +118,7 @@ module _ {F : Type 0} (rest : F → ℕ → Option (List ℕ)) (fed : F → List
       own : (stream : Option ℕ) → AllIn stream []
       own None = refl
       own (Some s) = tt
+
       joined : (given : List Bool) (n : ℕ) → given ≡ replicate (length given) true → given ++ replicate n true ≡ replicate (length (given ++ replicate n true)) true
       joined given n all =
           let len : length (given ++ replicate n true) ≡ length given + n = length-append given (replicate n true) ∙ ap (λ (k : ℕ). length given + k) (length-replicate n true) in

@@ -1,5 +1,5 @@
 -- A reader of a column between two batches. Source: this project's own.
-use Rattle.std.specs.Prelude.{◌≡◌, ℕ, ◌<◌, ◌≤◌, Bool, true, false, List, length, map, drop, sum, Option, All, ℤ, pos}
+use Rattle.std.specs.Prelude.{◌≡◌, ℕ, ◌<◌, ◌≤◌, Bool, true, false, List, length, map, drop, sum, Option, Some, All, ℤ, pos}
 use Rattle.outside.specs.Runs.{Between}
 use Rattle.orc_rle.specs.BitRun.{BitRun}
 use Rattle.orc_values.specs.declared.value.Value.{Value}
@@ -13,7 +13,9 @@ use Rattle.orc_columns.specs.declared.value_reader.ValueReader.TheVariants as re
 use Rattle.orc_columns.specs.Column.{Streams, AreLengths, entry_text, places_of, rows_of}
 use Rattle.orc_columns.specs.Decoders.{PresentOf}
 use Rattle.orc_columns.specs.Present.{PresentBetween}
-use Rattle.orc_columns.specs.Spelling.{IntRun}
+use Rattle.orc_columns.specs.declared.spelling.Spelling.{Spelling}
+use Rattle.orc_columns.specs.declared.spelling.Spelling.TheVariants.{Bits, Integers, Texts, Dictionary}
+use Rattle.orc_columns.specs.Spelling.{IntRun, spelling_of}
 
 -- Of a column's streams these values that aren't null were given, and so many bytes are left: the runs that spell them are
 -- the fewest; a direct text's bytes are those of the lengths; a dictionary was read whole.
@@ -31,6 +33,13 @@ ValuesBetween size start given (reader.Dictionary d) rest =
     × (d.entries ≡ slices 0 lengths start.dictionary) × Between (IntRun d.places.version false) start.body numbers d.places.held rest.body
     × All (λ place. place < size) (places_of numbers) × (given ≡ map (entry_text d.entries) (places_of numbers))
 
+-- how a reader's values are spelled
+abbrev pub spelling_in : ValueReader → Spelling
+spelling_in (reader.Bits b) = Bits
+spelling_in (reader.Integers i) = Integers i.version
+spelling_in (reader.Texts t) = Texts t.lengths.version
+spelling_in (reader.Dictionary d) = Dictionary d.places.version
+
 -- what contracts see of a reader: its plan, its flags and values, and the fault that it has answered
 pub record ReaderOf : Type 0 where
   pub plan : ColumnPlan
@@ -42,6 +51,7 @@ pub record ReaderOf : Type 0 where
 pub record Midway (r : ReaderOf) (start : Streams) (given : List Value) (rest : Streams) : Type 0 where
   pub flags : List Bool
   pub values : List Value
+  pub spelled : spelling_of r.plan.kind r.plan.encoding ≡ Some (spelling_in r.values)
   pub present : PresentBetween r.present.state start.present flags r.present.held rest.present
   pub enough : length values ≡ present_count flags
   pub standing : ValuesBetween r.plan.dictionary_size start values r.values rest

@@ -60,7 +60,11 @@ impl Integers {
             self.old.stream feed.old feed.new self.old.held self.new.held (length out.old) (placed out.new result) }
     {
         if self.stream.is_none() {
-            return if out.is_empty() { Ok(()) } else { Err(RunFault::StreamEnds) };
+            return if out.is_empty() {
+                Ok(())
+            } else {
+                Err(RunFault::StreamEnds)
+            };
         }
         match &mut self.runs {
             IntRuns::One(runs) => runs.fill(feed, out),

@@ -10,8 +10,6 @@ mod spelling;
 mod value_reader;
 
 pub use fault::{ColumnFault, StreamName};
+pub use orc_values::{Column, ColumnValues, Columns, Texts, Value, ValueRef};
 pub use plan::ColumnPlan;
 pub use spelling::{Spelling, Version, spelling_of};
-
-
-pub use orc_values::{Column, ColumnValues, Columns, Texts, Value, ValueRef};

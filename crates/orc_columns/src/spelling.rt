@@ -27,13 +27,21 @@ pub enum Spelling {
 
 /// The kinds that are read, and their encodings.
 const BOOLEAN: u64 = 0;
+
 const SHORT: u64 = 2;
+
 const INT: u64 = 3;
+
 const LONG: u64 = 4;
+
 const STRING: u64 = 7;
+
 const DIRECT: u64 = 0;
+
 const DICTIONARY: u64 = 1;
+
 const DIRECT_V2: u64 = 2;
+
 const DICTIONARY_V2: u64 = 3;
 
 /// How a column of this kind with this encoding is spelled, or None where the kind hasn't the encoding, or there is
