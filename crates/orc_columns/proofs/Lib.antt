@@ -1,4 +1,7 @@
 mod Decoders
 mod Drawing
 mod FlagBatches
+mod FlagsFollowing
+mod Following
+mod NumberBatches
 mod Optional

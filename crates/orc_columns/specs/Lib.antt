@@ -1,7 +1,9 @@
 pub mod Column
 pub mod Decoders
 pub mod Draws
+pub mod Flags
 pub mod Midway
+pub mod Numbers
 pub mod Optional
 pub mod Present
 pub mod Spelling

@@ -3,7 +3,9 @@
 
 mod bit_stream;
 mod fault;
+mod flags;
 mod integers;
+mod numbers;
 mod plan;
 mod present;
 mod spelling;
