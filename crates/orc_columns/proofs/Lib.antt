@@ -5,3 +5,4 @@ mod FlagsFollowing
 mod Following
 mod NumberBatches
 mod Optional
+mod Summaries

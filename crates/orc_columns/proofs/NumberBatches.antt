@@ -1,6 +1,7 @@
 -- The integers of a whole stream, batch by batch.
 use Rattle.std.proofs.Common.{◌≡◌, ℕ, ◌+◌, ◌≤◌, List, [], ◌++◌, length, Option, Ok, Err, ℤ, refl, sym, ◌∙◌, ap, arith, length-append}
-use Rattle.std.specs.Prelude.{max}
+use Rattle.std.specs.Prelude.{max, All, FitsSigned}
+use Rattle.std.proofs.lemmas.List.Elements.{All-nil, All-append}
 use Rattle.std.specs.Int.{w64, cast_unsigned}
 use Rattle.std.proofs.lemmas.List.Sums.{fold-append}
 use Rattle.outside.specs.declared.run_fault.RunFault.{RunFault}
@@ -23,18 +24,18 @@ module _ {F : Type 0} (rest : F → ℕ → Option (List ℕ)) (fed : F → List
   reads_none stream feed held nothing = record {
     numbers = [];
     fills = fills_none rest fed count Form read stream feed held nothing;
-    summary = (refl, refl);
+    summary = (refl, refl, All-nil (FitsSigned w64));
   }
 
   module _ (joined : (first between last : F) (xs ys : List Taken) → fed first xs between → fed between ys last → fed first (xs ++ ys) last) where
     pub reads_more : (stream : Option ℕ) (first between last : F) (before held after : List ℤ) (n m : ℕ) (s t : Summary) (out : List ℤ)
-        → length out ≡ m → t.total ≡ total_from s.total out → t.bound ≡ bound_from s.bound out
+        → length out ≡ m → t.total ≡ total_from s.total out → t.bound ≡ bound_from s.bound out → All (FitsSigned w64) out
         → ReadsNumbers rest fed count Form read stream first between before held n (Ok s) → FillsIn rest fed count Form read stream between last held after m (Ok out)
         → ReadsNumbers rest fed count Form read stream first last before after (n + m) (Ok t)
-    reads_more stream first between last before held after n m s t out len total bound one two = record {
+    reads_more stream first between last before held after n m s t out len total bound fit one two = record {
       numbers = one.numbers ++ out;
       fills = fills_more rest fed count Form read joined stream first between last before held after n m one.numbers out one.fills two;
-      summary = (omega (arith, length-append one.numbers out, one.summary.0, len), summary_more s t one.numbers out one.summary.1 total bound);
+      summary = (omega (arith, length-append one.numbers out, one.summary.0, len), summary_more s t one.numbers out one.summary.1 total bound, All-append (FitsSigned w64) one.numbers out one.summary.2 fit);
     }
 
     pub reads_fault : (stream : Option ℕ) (first between last : F) (before held after : List ℤ) (n m all : ℕ) (s : Summary) (fault : RunFault) → n + m ≤ all

@@ -1,5 +1,5 @@
 -- The integers of a whole stream, and what judging a column asks of them. Source: this project's own.
-use Rattle.std.specs.Prelude.{◌≡◌, ℕ, ◌+◌, max, List, length, fold, Option, Result, IfOk, ℤ}
+use Rattle.std.specs.Prelude.{◌≡◌, ℕ, ◌+◌, max, List, length, fold, Option, Result, IfOk, ℤ, All, FitsSigned}
 use Rattle.std.specs.Int.{w64, cast_unsigned}
 use Rattle.outside.specs.declared.run_fault.RunFault.{RunFault}
 use Rattle.outside.specs.Feed.{Taken}
@@ -22,4 +22,4 @@ summary_of numbers = record { total = total_from 0 numbers; bound = bound_from 0
 pub record ReadsNumbers {F : Type 0} (rest : F → ℕ → Option (List ℕ)) (fed : F → List Taken → F → Type 0) (count : F → ℕ) (Form : List ℕ → List ℤ → Type 0) (read : Reader (List ℤ)) (stream : Option ℕ) (first last : F) (before held : List ℤ) (asked : ℕ) (answer : Result Summary RunFault) : Type 0 where
   pub numbers : List ℤ
   pub fills : FillsIn rest fed count Form read stream first last before held asked (placed numbers answer)
-  pub summary : IfOk answer (λ s. (length numbers ≡ asked) × (s ≡ summary_of numbers))
+  pub summary : IfOk answer (λ s. (length numbers ≡ asked) × (s ≡ summary_of numbers) × All (FitsSigned w64) numbers)

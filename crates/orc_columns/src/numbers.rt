@@ -1,5 +1,6 @@
 //! The integers of a whole stream, seen by what judging a column asks of them.
-ghost use Rattle.std.specs.Prelude.{◌≡◌, ◌<◌, ◌≤◌, ◌+◌, ◌*◌, ◌^◌, length, None};
+ghost use Rattle.std.specs.Prelude.{◌≡◌, ◌<◌, ◌≤◌, ◌+◌, ◌*◌, ◌^◌, length, None, All, FitsSigned};
+ghost use Rattle.std.specs.Int.{w64, cast_unsigned};
 ghost use Rattle.orc_columns.specs.Numbers.{ReadsNumbers, total_from, bound_from};
 ghost use Rattle.orc_columns.specs.Spelling.{IntRun, int_run};
 
@@ -51,14 +52,24 @@ fn with_numbers(summary: Summary, given: u64, numbers: &[i64]) -> Summary
     ensures total { result.total ≤ (given + length numbers.now) * 2 ^ 64 }
     ensures bound { result.bound ≤ 2 ^ 64 }
     ensures sum { result.total ≡ total_from summary.total numbers.now }
+    ensures fit { All (FitsSigned w64) numbers.now }
     ensures most { result.bound ≡ bound_from summary.bound numbers.now }
 {
     let mut total = summary.total;
     let mut bound = summary.bound;
     for number in numbers {
-        let place = u128::from(number.cast_unsigned());
+        let place = u128::from(place_of(number));
         total += place;
         bound = bound.max(place + 1);
     }
     Summary { total, bound }
+}
+
+/// A number as an unsigned one of 64 bits.
+fn place_of(number: &i64) -> u64
+    ensures place { result ≡ cast_unsigned w64 number.now }
+    ensures fits { FitsSigned w64 number.now }
+{
+    let number = *number;
+    number.cast_unsigned()
 }

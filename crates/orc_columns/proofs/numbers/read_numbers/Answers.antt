@@ -39,6 +39,6 @@ loop-given-preserved g c =
       high = omega (arith, len, c.with_numbers-summary.ensures.total);
       top = c.with_numbers-summary.ensures.bound;
       reads = reads_more f.rest f.fed f.fault_count _ _ g.met.F.Feed.fed_joined c.args.integers.now.stream c.args.feed.now c.loop-given.feed c.fill.new.feed c.args.integers.now.held c.loop-given.integers.held c.fill.new.self.held
-          c.loop-given.given c.min-asked.result c.loop-given.summary c.with_numbers-summary.result c.fill.new.out len c.with_numbers-summary.ensures.sum c.with_numbers-summary.ensures.most
+          c.loop-given.given c.min-asked.result c.loop-given.summary c.with_numbers-summary.result c.fill.new.out len c.with_numbers-summary.ensures.sum c.with_numbers-summary.ensures.most c.with_numbers-summary.ensures.fit
           i.reads (rw (i.version, i.signed, i.stream, asked) at (c.in_ok-fill.ensures.fills i.whole));
     }
