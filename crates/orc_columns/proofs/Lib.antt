@@ -3,6 +3,8 @@ mod Drawing
 mod FlagBatches
 mod FlagsFollowing
 mod Following
+mod Judged
+mod JudgedColumns
 mod NumberBatches
 mod Optional
 mod Summaries

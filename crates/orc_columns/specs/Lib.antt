@@ -1,6 +1,7 @@
 pub mod Column
 pub mod Decoders
 pub mod Draws
+pub mod FirstFault
 pub mod Flags
 pub mod Midway
 pub mod Numbers

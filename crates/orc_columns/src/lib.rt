@@ -5,6 +5,7 @@ mod bit_stream;
 mod fault;
 mod flags;
 mod integers;
+mod judging;
 mod numbers;
 mod plan;
 mod present;
@@ -12,6 +13,7 @@ mod spelling;
 mod value_reader;
 
 pub use fault::{ColumnFault, StreamName};
+pub use judging::first_fault;
 pub use orc_values::{Column, ColumnValues, Columns, Texts, Value, ValueRef};
 pub use plan::ColumnPlan;
 pub use spelling::{Spelling, Version, spelling_of};

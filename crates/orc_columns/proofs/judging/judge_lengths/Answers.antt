@@ -1,0 +1,29 @@
+use Rattle.std.proofs.Common.{rules, ◌≡◌, ◌<◌, ◌≤◌, arith}
+use Rattle.orc_columns.proofs.Judged.{lengths_broken, a_negative, past_data, lengths_judged}
+use Rattle.orc_columns.proofs.judging.judge_lengths.Goals as goal
+
+pub returns-in-Err : goal.returns-in-Err
+returns-in-Err g c =
+    let f = g.F.Feed in
+    let law = g.met.F.Feed in
+    rw c.of_run.ensures (lengths_broken f.rest f.fed f.fault_count c.args.plan law.fed_lost law.fed_nothing law.fed_joined c.requires.differ c.args.version c.args.feed.now c.read_numbers.new.feed c.read_numbers.new.integers.held c.args.limit c.args.count c.in-Err.fault (rw c.new-lengths.ensures at c.in-Err.ensures))
+
+pub returns-then-summary-gt-NEGATIVE : goal.returns-then-summary-gt-NEGATIVE
+returns-then-summary-gt-NEGATIVE g c =
+    let f = g.F.Feed in
+    let law = g.met.F.Feed in
+    a_negative f.rest f.fed f.fault_count c.args.plan law.fed_lost law.fed_nothing law.fed_joined c.requires.differ c.args.version c.args.feed.now c.read_numbers.new.feed c.read_numbers.new.integers.held c.args.limit c.args.count c.in-Ok.summary (rw c.new-lengths.ensures at c.in-Ok.ensures) c.if-summary-gt-NEGATIVE.true
+
+pub returns-then-summary-from : goal.returns-then-summary-from
+returns-then-summary-from g c =
+    let f = g.F.Feed in
+    let law = g.met.F.Feed in
+    let high : c.args.limit < c.in-Ok.summary.total = omega (arith, c.from.ensures, c.if-summary-from.true) in
+    past_data f.rest f.fed f.fault_count c.args.plan law.fed_lost law.fed_nothing law.fed_joined c.requires.differ c.args.version c.args.feed.now c.read_numbers.new.feed c.read_numbers.new.integers.held c.args.limit c.args.count c.in-Ok.summary (rw c.new-lengths.ensures at c.in-Ok.ensures) c.if-summary-gt-NEGATIVE.false high
+
+pub returns : goal.returns
+returns g c =
+    let f = g.F.Feed in
+    let law = g.met.F.Feed in
+    let within : c.in-Ok.summary.total ≤ c.args.limit = omega (arith, c.from.ensures, c.if-summary-from.false) in
+    lengths_judged f.rest f.fed f.fault_count c.args.plan law.fed_lost law.fed_nothing law.fed_joined c.requires.differ c.args.version c.args.feed.now c.read_numbers.new.feed c.read_numbers.new.integers.held c.args.limit c.args.count c.in-Ok.summary (rw c.new-lengths.ensures at c.in-Ok.ensures) c.if-summary-gt-NEGATIVE.false within
