@@ -1,5 +1,5 @@
 -- The decoders of a column's streams.
-use Rattle.std.proofs.Common.{◌≡◌, ℕ, Bool, true, false, List, [], ◌∷◌, Option, Some, None, Ok, Err, ℤ, refl, sym, ◌∙◌, ap, subst}
+use Rattle.std.proofs.Common.{◌≡◌, ℕ, Bool, true, false, [], Option, Some, None, Err, refl, ◌∙◌, ap}
 use Rattle.std.specs.Option.{is_some}
 use Rattle.outside.specs.declared.run_fault.RunFault.TheVariants.{StreamEnds}
 use Rattle.orc_columns.specs.declared.spelling.Version.{Version}

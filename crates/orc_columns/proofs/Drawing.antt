@@ -1,13 +1,12 @@
 -- How calls on a column's streams follow each other.
-use Rattle.std.proofs.Common.{◌≡◌, ◌≢◌, ℕ, ◌+◌, ◌==◌, ◌≤◌, Bool, true, false, List, [], ◌∷◌, ◌++◌, length, drop, Option, Some, None, Ok, Err, refl, sym, ◌∙◌, ap, subst, arith, inl, inr}
-use Rattle.std.specs.Prelude.{Result, if◌then◌else◌, IsErrAnd, ◌⊎◌}
-use Rattle.std.specs.List.{AllByRecursion}
+use Rattle.std.proofs.Common.{◌≡◌, ◌≢◌, ℕ, ◌+◌, ◌==◌, Bool, false, List, [], ◌∷◌, ◌++◌, length, Option, Some, None, Ok, Err, refl, sym, ◌∙◌, ap, subst, arith, inl, inr}
+use Rattle.std.specs.Prelude.{Result, IsErrAnd}
 use Rattle.outside.specs.declared.run_fault.RunFault.{RunFault}
 use Rattle.outside.specs.declared.run_fault.RunFault.TheVariants as run
-use Rattle.outside.specs.Cause.{Cause, Rose, last_count}
+use Rattle.outside.specs.Cause.{Rose}
 use Rattle.outside.specs.Feed.{Taken, AllOf, Lost, taken_of}
 use Rattle.outside.specs.Reading.{Reader, IsReadFault}
-use Rattle.outside.specs.Runs.{Between, Breaks}
+use Rattle.outside.specs.Runs.{Between}
 use Rattle.outside.specs.Filling.{Continues, BreaksWith}
 use Rattle.orc_columns.specs.declared.fault.ColumnFault.{ColumnFault}
 use Rattle.orc_columns.specs.declared.fault.ColumnFault.TheVariants.{BadEncoding, Run, NegativeLength, LengthsPastData, IndexOutOfDictionary, Read, NoMemory}
@@ -15,7 +14,7 @@ use Rattle.orc_columns.specs.declared.fault.StreamName.{StreamName}
 use Rattle.orc_columns.specs.declared.fault.StreamName.TheVariants as name
 use Rattle.orc_columns.specs.declared.plan.ColumnPlan.{ColumnPlan}
 use Rattle.orc_columns.specs.Column.{Streams}
-use Rattle.orc_columns.specs.Draws.{IsOfPlan, AllOfPlan, Differ, StreamsDiffer, Tells, IsReadError, FailedToRead, Decided, Said, Draws, of_run, in_stream, OnlyPresent, OnlyBody, OnlyLengths, OnlyDictionary, GoesOn, BreaksOn}
+use Rattle.orc_columns.specs.Draws.{IsOfPlan, AllOfPlan, Differ, StreamsDiffer, Tells, IsReadError, FailedToRead, Decided, Said, Draws, of_run, in_stream, OnlyPresent, OnlyBody, OnlyLengths, GoesOn, BreaksOn}
 use Rattle.orc_columns.specs.Decoders.{PresentOf}
 use Rattle.orc_columns.specs.Optional.{rest_in, AllIn, FillsIn}
 use Rattle.orc_columns.specs.Present.{PresentBetween, PresentBreaksWith, PresentContinues, PresentFills, PresentGoesOn, PresentBreaksOn}

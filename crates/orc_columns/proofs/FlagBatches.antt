@@ -1,24 +1,21 @@
 -- The flags of PRESENT, batch by batch.
-use Rattle.std.proofs.Common.{◌≡◌, ◌≢◌, ℕ, zero, suc, ◌+◌, ◌<◌, Bool, true, false, List, [], ◌∷◌, ◌++◌, length, replicate, Option, Some, None, Ok, Err, refl, sym, ◌∙◌, ap, subst, arith, append-nil, length-append}
-use Rattle.std.specs.Prelude.{Result, IsErrAnd}
+use Rattle.std.proofs.Common.{◌≡◌, ◌≢◌, ℕ, ◌+◌, ◌<◌, Bool, true, List, [], ◌∷◌, ◌++◌, length, replicate, Option, Some, None, Ok, Err, refl, sym, ◌∙◌, ap, subst, arith, append-nil, length-append}
+use Rattle.std.specs.Prelude.{Result}
 use Rattle.std.proofs.lemmas.List.{replicate-append-replicate, length-replicate}
 use Rattle.outside.specs.declared.run_fault.RunFault.{RunFault}
 use Rattle.outside.specs.declared.run_fault.RunFault.TheVariants.{StreamEnds, LongVarint, PatchOutOfRun, PatchTooWide, Read}
-use Rattle.outside.specs.Cause.{Cause}
 use Rattle.outside.specs.Feed.{Taken}
 use Rattle.outside.specs.Filling.{Fills, BreaksWith, Continues}
-use Rattle.outside.specs.Reading.{IsReadFault}
-use Rattle.outside.specs.Runs.{Between, Breaks}
+use Rattle.outside.specs.Runs.{Between}
 use Rattle.outside.proofs.Runs.{Between-start}
 use Rattle.orc_rle.specs.BitRun.{BitRun, bit_run}
 use Rattle.orc_rle.specs.Decoder.{Decoder}
-use Rattle.orc_rle.specs.EmptyStream.{FillsUnlessEmpty, NeedsByte, AnswersEmpty}
+use Rattle.orc_rle.specs.EmptyStream.{FillsUnlessEmpty, AnswersEmpty}
 use Rattle.orc_columns.specs.declared.present.PresentState.{PresentState}
 use Rattle.orc_columns.specs.declared.present.PresentState.TheVariants.{Unread, Empty, Flags}
-use Rattle.orc_columns.specs.Column.{PresentBreaks}
 use Rattle.orc_columns.specs.Decoders.{PresentOf, present_in, PresentOn}
-use Rattle.orc_columns.specs.Optional.{rest_in, AllIn}
-use Rattle.orc_columns.specs.Present.{PresentBetween, PresentBreaksWith, PresentContinues, PresentFills}
+use Rattle.orc_columns.specs.Optional.{AllIn}
+use Rattle.orc_columns.specs.Present.{PresentBreaksWith, PresentContinues, PresentFills}
 
 -- a stream with a byte breaks as its runs do
 breaks_with : (start : List ℕ) (count : ℕ) (fault : RunFault) → start ≢ [] → BreaksWith BitRun bit_run start count fault → PresentBreaksWith start count fault

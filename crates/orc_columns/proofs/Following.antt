@@ -1,14 +1,13 @@
 -- Batches of one stream that follow each other are one batch.
-use Rattle.std.proofs.Common.{◌≡◌, ℕ, ◌+◌, ◌<◌, ◌≤◌, List, [], ◌∷◌, ◌++◌, length, Option, Some, None, Ok, Err, refl, sym, ◌∙◌, ap, subst, arith, append_assoc, append-nil, length-append, inl, inr}
-use Rattle.std.specs.Prelude.{Result, IsErrAnd}
+use Rattle.std.proofs.Common.{◌≡◌, ℕ, ◌+◌, ◌≤◌, List, [], ◌∷◌, ◌++◌, length, Option, Some, None, Ok, Err, refl, subst, arith, append_assoc, append-nil, length-append, inl, inr}
 use Rattle.outside.specs.declared.run_fault.RunFault.{RunFault}
 use Rattle.outside.specs.declared.run_fault.RunFault.TheVariants as run
-use Rattle.outside.specs.Cause.{Cause, Rose}
+use Rattle.outside.specs.Cause.{Rose}
 use Rattle.outside.specs.Feed.{Taken, AllOf}
-use Rattle.outside.specs.Filling.{Continues, BreaksWith}
-use Rattle.outside.specs.Reading.{Reader, IsReadFault}
-use Rattle.outside.specs.Runs.{Between, Breaks}
-use Rattle.orc_columns.specs.Optional.{rest_in, AllIn, FillsIn}
+use Rattle.outside.specs.Filling.{BreaksWith}
+use Rattle.outside.specs.Reading.{Reader}
+use Rattle.outside.specs.Runs.{Between}
+use Rattle.orc_columns.specs.Optional.{AllIn, FillsIn}
 
 own_joined : (stream : ℕ) (front back : List Taken) → AllOf stream front → AllOf stream back → AllOf stream (front ++ back)
 own_joined stream [] back a b = b

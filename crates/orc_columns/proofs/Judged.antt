@@ -1,15 +1,14 @@
 -- How a column is judged, stream by stream.
-use Rattle.std.proofs.Common.{◌≡◌, ℕ, zero, suc, ◌+◌, ◌^◌, ◌<◌, ◌≤◌, Bool, true, false, List, [], ◌∷◌, ◌++◌, length, map, Option, Some, None, Ok, Err, ℤ, pos, negsuc, refl, sym, ◌∙◌, ap, subst, arith, All, Contains, sum, zero-add}
+use Rattle.std.proofs.Common.{◌≡◌, ℕ, ◌^◌, ◌<◌, ◌≤◌, Bool, true, false, List, [], ◌++◌, length, map, Option, Ok, Err, ℤ, pos, refl, sym, ◌∙◌, ap, subst, arith, All, Contains, sum, zero-add}
 use Rattle.std.specs.Prelude.{Result, FitsSigned}
 use Rattle.std.specs.Int.{w64, cast_unsigned}
 use Rattle.std.proofs.lemmas.List.{length-map}
 use Rattle.outside.specs.declared.run_fault.RunFault.{RunFault}
 use Rattle.outside.specs.Feed.{Taken, Lost, taken_of}
 use Rattle.outside.specs.Reading.{Reader}
-use Rattle.outside.specs.Runs.{Between, Spells, Breaks}
+use Rattle.outside.specs.Runs.{Spells, Breaks}
 use Rattle.outside.proofs.Runs.{Between-start}
 use Rattle.orc_rle.specs.BitRun.{BitRun, bit_run}
-use Rattle.orc_values.specs.declared.value.Value.{Value}
 use Rattle.orc_values.specs.declared.value.Value.TheVariants as value
 use Rattle.orc_values.specs.Texts.{slices}
 use Rattle.orc_values.specs.TextsLaws.{length-slices}
@@ -21,12 +20,11 @@ use Rattle.orc_columns.specs.declared.numbers.Summary.{Summary}
 use Rattle.orc_columns.specs.declared.plan.ColumnPlan.{ColumnPlan}
 use Rattle.orc_columns.specs.declared.spelling.Spelling.TheVariants.{Bits, Integers, Texts, Dictionary}
 use Rattle.orc_columns.specs.declared.spelling.Version.{Version}
-use Rattle.orc_columns.specs.Column.{Streams, AreLengths, LengthsFail, broken, negative, past, AreValues, ValuesFail, bits, integers, texts, entries, places, index, places_of, IsNegative, entry_text}
-use Rattle.orc_columns.specs.Draws.{StreamsDiffer, Tells, Draws, Decided, of_run, OnlyBody, OnlyLengths, OnlyPresent, GoesOn, BreaksOn}
+use Rattle.orc_columns.specs.Column.{Streams, AreLengths, LengthsFail, broken, negative, past, ValuesFail, bits, integers, texts, entries, places, index, places_of, IsNegative, entry_text}
+use Rattle.orc_columns.specs.Draws.{StreamsDiffer, Tells, Draws, of_run, OnlyBody, OnlyLengths, GoesOn, BreaksOn}
 use Rattle.orc_columns.specs.FirstFault.{Sized, JudgedLengths, JudgedValues}
 use Rattle.orc_columns.specs.Flags.{ReadsBits}
-use Rattle.orc_columns.specs.Numbers.{ReadsNumbers, summary_of, total_from, bound_from}
-use Rattle.orc_columns.specs.Optional.{FillsIn}
+use Rattle.orc_columns.specs.Numbers.{ReadsNumbers, bound_from}
 use Rattle.orc_columns.specs.Spelling.{IntRun, int_run}
 use Rattle.orc_columns.proofs.Drawing.{Draws-ok, Draws-fault, Draws-stops, Draws-then, body_draws, length_draws}
 use Rattle.orc_columns.proofs.Summaries.{total_is, all_below, some_above, are_places, is_negative}

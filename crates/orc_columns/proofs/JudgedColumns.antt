@@ -1,14 +1,14 @@
 -- How a whole column is judged: which rows have a value, and then the values.
-use Rattle.std.proofs.Common.{◌≡◌, ℕ, zero, suc, ◌+◌, Bool, true, List, [], ◌∷◌, ◌++◌, length, replicate, Option, Some, None, Ok, Err, ℤ, refl, sym, ◌∙◌, ap, subst, arith, zero-add}
-use Rattle.std.specs.Prelude.{Result, map}
+use Rattle.std.proofs.Common.{◌≡◌, ℕ, Bool, List, [], ◌∷◌, ◌++◌, length, Option, Some, None, Ok, Err, refl, sym, ◌∙◌, ap, subst, arith, zero-add}
+use Rattle.std.specs.Prelude.{Result}
 use Rattle.std.proofs.lemmas.List.{length-map}
 use Rattle.outside.specs.declared.run_fault.RunFault.{RunFault}
 use Rattle.outside.specs.Feed.{Taken, Lost, taken_of}
-use Rattle.outside.specs.Runs.{Between, Spells, Breaks}
+use Rattle.outside.specs.Runs.{Between, Spells}
 use Rattle.outside.proofs.Runs.{Between-start}
-use Rattle.orc_rle.specs.BitRun.{BitRun, bit_run}
+use Rattle.orc_rle.specs.BitRun.{BitRun}
 use Rattle.orc_values.specs.declared.value.Value.{Value}
-use Rattle.orc_values.specs.Woven.{woven, present_count}
+use Rattle.orc_values.specs.Woven.{woven}
 use Rattle.orc_values.specs.WovenLaws.{length-woven}
 use Rattle.orc_columns.specs.declared.fault.ColumnFault.{ColumnFault}
 use Rattle.orc_columns.specs.declared.fault.ColumnFault.TheVariants.{BadEncoding, Run, NegativeLength, LengthsPastData, IndexOutOfDictionary, Read, NoMemory}
@@ -18,13 +18,13 @@ use Rattle.orc_columns.specs.declared.present.PresentState.{PresentState}
 use Rattle.orc_columns.specs.declared.present.PresentState.TheVariants.{Unread, Empty, Flags}
 use Rattle.orc_columns.specs.declared.spelling.Spelling.{Spelling}
 use Rattle.orc_columns.specs.declared.spelling.Spelling.TheVariants.{Bits, Integers, Texts, Dictionary}
-use Rattle.orc_columns.specs.Column.{Streams, ArePresent, PresentBreaks, AreLengths, LengthsFail, AreValues, ValuesFail, bits, integers, texts, entries, places, index, IsColumn, Fails, encoding, nulls, values, row_value, rows_of}
+use Rattle.orc_columns.specs.Column.{Streams, ArePresent, PresentBreaks, AreValues, ValuesFail, bits, integers, texts, entries, places, index, Fails, encoding, nulls, values, row_value, rows_of}
 use Rattle.orc_columns.specs.Decoders.{PresentOf, new_present}
 use Rattle.orc_columns.specs.Draws.{StreamsDiffer, Tells, Draws, Decided, of_run, OnlyPresent}
 use Rattle.orc_columns.specs.FirstFault.{found_by, Judges, IsUndecided, Sized, StandingRows, NoStandingRows, JudgedValues, JudgedColumn}
 use Rattle.orc_columns.specs.Flags.{ReadsFlags}
 use Rattle.orc_columns.specs.Optional.{rest_in}
-use Rattle.orc_columns.specs.Present.{PresentBetween, PresentGoesOn, PresentBreaksOn}
+use Rattle.orc_columns.specs.Present.{PresentBetween}
 use Rattle.orc_columns.specs.Spelling.{spelling_of}
 use Rattle.orc_columns.proofs.Drawing.{Draws-ok, Draws-fault, Draws-then, present_draws}
 use Rattle.orc_columns.proofs.Judged.{said_so}

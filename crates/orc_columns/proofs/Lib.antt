@@ -5,6 +5,8 @@ mod FlagsFollowing
 mod Following
 mod Judged
 mod JudgedColumns
+mod OneColumn
+mod OneSpelling
 mod NumberBatches
 mod Optional
 mod Summaries

@@ -1,12 +1,9 @@
 -- A stream that isn't there.
-use Rattle.std.proofs.Common.{◌≡◌, ℕ, ◌+◌, ◌<◌, List, [], ◌∷◌, ◌++◌, length, Option, Some, None, Ok, Err, refl, sym, ◌∙◌, ap, subst, arith, append-nil}
-use Rattle.std.specs.Prelude.{Result}
-use Rattle.outside.specs.declared.run_fault.RunFault.{RunFault}
+use Rattle.std.proofs.Common.{◌≡◌, ℕ, ◌+◌, ◌<◌, List, [], ◌∷◌, length, Option, Some, None, Ok, Err, refl, sym, subst, arith, append-nil}
 use Rattle.outside.specs.declared.run_fault.RunFault.TheVariants.{StreamEnds}
-use Rattle.outside.specs.Cause.{Cause}
 use Rattle.outside.specs.Feed.{Taken}
 use Rattle.outside.specs.Reading.{Reader}
-use Rattle.outside.specs.Runs.{Between, Breaks}
+use Rattle.outside.specs.Runs.{Between}
 use Rattle.outside.proofs.Runs.{Between-breaks}
 use Rattle.orc_columns.specs.Optional.{FillsIn}
 

@@ -1,7 +1,7 @@
 -- What the summary of numbers says of them.
-use Rattle.std.proofs.Common.{◌≡◌, ℕ, zero, suc, ◌+◌, ◌^◌, ◌<◌, ◌≤◌, ◌⊎◌, List, [], ◌∷◌, ◌++◌, length, map, ℤ, pos, negsuc, refl, sym, ◌∙◌, ap, subst, arith, inl, inr, All, Contains, sum}
-use Rattle.std.specs.Prelude.{max, FitsSigned, fold, take, get_or}
-use Rattle.std.specs.Int.{w64, cast_unsigned, cast_signed}
+use Rattle.std.proofs.Common.{◌≡◌, ℕ, suc, ◌+◌, ◌^◌, ◌<◌, ◌≤◌, ◌⊎◌, List, [], ◌∷◌, ◌++◌, length, map, ℤ, pos, negsuc, refl, sym, ◌∙◌, ap, arith, inl, inr, All, Contains, sum}
+use Rattle.std.specs.Prelude.{max, FitsSigned, take, get_or}
+use Rattle.std.specs.Int.{w64, cast_unsigned}
 use Rattle.std.proofs.lemmas.Int.{ints, to_z-of_z, to_z_pos}
 use Rattle.std.proofs.lemmas.List.Elements.{All-nil, All-cons, All-head, All-tail, All-append, All-same}
 use Rattle.std.proofs.Math.Seq.{take-suc}

@@ -1,5 +1,5 @@
 -- What judging a column finds, over all its rows. Source: this project's own.
-use Rattle.std.specs.Prelude.{◌≡◌, ℕ, ◌+◌, Bool, List, length, sum, Option, None, Some, Result, Ok, Err, IfOk, IfErr}
+use Rattle.std.specs.Prelude.{◌≡◌, ℕ, Bool, List, length, Option, None, Some, Result, Ok, Err, IfOk, IfErr}
 use Rattle.outside.specs.declared.run_fault.RunFault.{RunFault}
 use Rattle.outside.specs.Cause.{Cause}
 use Rattle.outside.specs.Feed.{Taken}
@@ -11,7 +11,7 @@ use Rattle.orc_columns.specs.declared.fault.StreamName.TheVariants as name
 use Rattle.orc_columns.specs.declared.plan.ColumnPlan.{ColumnPlan}
 use Rattle.orc_columns.specs.declared.spelling.Spelling.{Spelling}
 use Rattle.orc_columns.specs.declared.spelling.Version.{Version}
-use Rattle.orc_columns.specs.Column.{Streams, ArePresent, PresentBreaks, AreLengths, LengthsFail, AreValues, ValuesFail, IsColumn, Fails}
+use Rattle.orc_columns.specs.Column.{Streams, ArePresent, PresentBreaks, AreLengths, AreValues, IsColumn, Fails}
 use Rattle.orc_columns.specs.Draws.{AllOfPlan, Tells, FailedToRead, OnlyPresent, OnlyLengths}
 
 -- the column has values in so many rows, or this is the first condition that refuses it

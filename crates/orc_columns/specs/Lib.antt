@@ -3,6 +3,7 @@ pub mod Decoders
 pub mod Draws
 pub mod FirstFault
 pub mod Flags
+pub mod Laws
 pub mod Midway
 pub mod Numbers
 pub mod Optional

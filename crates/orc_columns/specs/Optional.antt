@@ -1,8 +1,6 @@
 -- Streams that a stripe may lack: one that isn't there is read as an empty one.
-use Rattle.std.specs.Prelude.{◌≡◌, ℕ, ◌+◌, ◌⊎◌, List, [], length, Option, Some, None, Result, Ok, Err, IsErrAnd}
-use Rattle.std.specs.List.{AllByRecursion}
+use Rattle.std.specs.Prelude.{◌≡◌, ℕ, List, [], Option, Some, None, Result, IsErrAnd}
 use Rattle.outside.specs.declared.run_fault.RunFault.{RunFault}
-use Rattle.outside.specs.declared.run_fault.RunFault.TheVariants.{Read}
 use Rattle.outside.specs.Cause.{Cause}
 use Rattle.outside.specs.Feed.{Taken, AllOf}
 use Rattle.outside.specs.Filling.{Continues}

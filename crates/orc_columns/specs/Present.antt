@@ -1,13 +1,12 @@
 -- The stream PRESENT between two batches, and what a batch of flags does.
-use Rattle.std.specs.Prelude.{◌≡◌, ◌≢◌, ℕ, ◌+◌, Bool, true, List, [], ◌∷◌, ◌++◌, length, replicate, Option, Some, Result, Ok, Err, IsErrAnd}
+use Rattle.std.specs.Prelude.{◌≡◌, ◌≢◌, ℕ, ◌+◌, Bool, true, List, [], ◌++◌, length, replicate, Option, Some, Result, Ok, Err, IsErrAnd}
 use Rattle.outside.specs.declared.run_fault.RunFault.{RunFault}
 use Rattle.outside.specs.declared.run_fault.RunFault.TheVariants.{Read}
 use Rattle.outside.specs.Cause.{Cause}
 use Rattle.outside.specs.Feed.{Taken}
-use Rattle.outside.specs.Filling.{BreaksWith}
 use Rattle.outside.specs.Reading.{IsReadFault}
 use Rattle.outside.specs.Runs.{Between}
-use Rattle.orc_rle.specs.BitRun.{BitRun, bit_run}
+use Rattle.orc_rle.specs.BitRun.{BitRun}
 use Rattle.orc_columns.specs.declared.fault.ColumnFault.{ColumnFault}
 use Rattle.orc_columns.specs.declared.fault.ColumnFault.TheVariants.{Run}
 use Rattle.orc_columns.specs.declared.fault.StreamName.TheVariants as name

@@ -6,6 +6,7 @@ mod fault;
 mod flags;
 mod integers;
 mod judging;
+pub mod laws;
 mod numbers;
 mod plan;
 mod present;

@@ -1,6 +1,5 @@
-use Rattle.std.proofs.Common.{rules, ◌≡◌, ◌+◌, ◌≤◌, ◌∙◌, Err, length, refl, arith}
+use Rattle.std.proofs.Common.{◌≡◌, ◌+◌, ◌≤◌, ◌∙◌, length, refl, arith}
 use Rattle.std.proofs.lemmas.Result.{err_from_is_err_and}
-use Rattle.orc_values.specs.Woven.{present_count}
 use Rattle.orc_values.specs.WovenLaws.{present_count-le}
 use Rattle.orc_columns.proofs.FlagsFollowing.{flags_none, flags_more, flags_fault}
 use Rattle.orc_columns.proofs.flags.count_flags.Goals as goal

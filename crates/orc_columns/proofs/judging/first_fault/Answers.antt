@@ -1,4 +1,4 @@
-use Rattle.std.proofs.Common.{rules, ◌≡◌, Some, None, sym}
+use Rattle.std.proofs.Common.{sym}
 use Rattle.orc_columns.proofs.JudgedColumns.{found_none, found_so, bad_encoding}
 use Rattle.orc_columns.proofs.judging.first_fault.Goals as goal
 

@@ -1,4 +1,3 @@
-use Rattle.std.proofs.Common.{rules, ◌≡◌}
 use Rattle.std.proofs.lemmas.Result.{err_from_is_err_and}
 use Rattle.orc_columns.proofs.JudgedColumns.{column_broken, column_judged}
 use Rattle.orc_columns.proofs.judging.judge.Goals as goal

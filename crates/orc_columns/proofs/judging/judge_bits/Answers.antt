@@ -1,4 +1,3 @@
-use Rattle.std.proofs.Common.{rules, ◌≡◌}
 use Rattle.orc_columns.proofs.Judged.{bits_judged, bits_broken}
 use Rattle.orc_columns.proofs.judging.judge_bits.Goals as goal
 

@@ -1,4 +1,4 @@
-use Rattle.std.proofs.Common.{rules, ◌≡◌, ◌<◌, ◌≤◌, arith}
+use Rattle.std.proofs.Common.{◌<◌, ◌≤◌, arith}
 use Rattle.std.proofs.lemmas.Result.{err_from_is_err_and}
 use Rattle.orc_columns.proofs.Judged.{entries_broken, places_broken, out_of_dictionary, dictionary_judged}
 use Rattle.orc_columns.proofs.judging.judge_dictionary.Goals as goal

@@ -1,4 +1,3 @@
-use Rattle.std.proofs.Common.{rules, ◌≡◌}
 use Rattle.orc_columns.proofs.Judged.{integers_judged, integers_broken}
 use Rattle.orc_columns.proofs.judging.judge_integers.Goals as goal
 

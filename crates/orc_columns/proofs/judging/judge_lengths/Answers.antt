@@ -1,4 +1,4 @@
-use Rattle.std.proofs.Common.{rules, ◌≡◌, ◌<◌, ◌≤◌, arith}
+use Rattle.std.proofs.Common.{◌<◌, ◌≤◌, arith}
 use Rattle.orc_columns.proofs.Judged.{lengths_broken, a_negative, past_data, lengths_judged}
 use Rattle.orc_columns.proofs.judging.judge_lengths.Goals as goal
 

@@ -1,4 +1,3 @@
-use Rattle.std.proofs.Common.{rules, ◌≡◌}
 use Rattle.orc_columns.proofs.Judged.{texts_judged}
 use Rattle.orc_columns.proofs.judging.judge_texts.Goals as goal
 

@@ -1,4 +1,3 @@
-use Rattle.std.proofs.Common.{rules, ◌≡◌}
 use Rattle.orc_columns.proofs.Judged.{said_so}
 use Rattle.orc_columns.proofs.judging.judge_values.Goals as goal
 

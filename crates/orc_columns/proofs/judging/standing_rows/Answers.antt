@@ -1,4 +1,3 @@
-use Rattle.std.proofs.Common.{rules, ◌≡◌}
 use Rattle.orc_columns.proofs.JudgedColumns.{standing_judged, standing_broken}
 use Rattle.orc_columns.proofs.judging.standing_rows.Goals as goal
 

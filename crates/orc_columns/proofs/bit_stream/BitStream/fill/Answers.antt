@@ -1,4 +1,4 @@
-use Rattle.std.proofs.Common.{rules, ◌≡◌, length, None, sym, arith, false, ◌∙◌}
+use Rattle.std.proofs.Common.{◌≡◌, length, sym, arith, false, ◌∙◌}
 use Rattle.std.specs.Option.{is_some}
 use Rattle.orc_columns.proofs.Decoders.{no_bits_held, bit_run-ends}
 use Rattle.orc_columns.proofs.Optional.{lacking_ok, lacking_ends}

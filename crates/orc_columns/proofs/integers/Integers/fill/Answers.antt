@@ -1,6 +1,5 @@
-use Rattle.std.proofs.Common.{rules, ◌≡◌, [], length, None, OnOk, ℕ, List, ◌∷◌, sym, ◌∙◌, arith, false}
+use Rattle.std.proofs.Common.{◌≡◌, length, sym, arith, false}
 use Rattle.std.specs.Option.{is_some}
-use Rattle.outside.specs.Reading.{placed}
 use Rattle.orc_columns.proofs.Decoders.{none_held, int_run-ends}
 use Rattle.orc_columns.proofs.Optional.{lacking_ok, lacking_ends}
 use Rattle.orc_columns.proofs.integers.Integers.fill.Goals as goal

@@ -1,4 +1,4 @@
-use Rattle.std.proofs.Common.{rules, ◌≡◌, None, ap, refl, sym, ◌∙◌}
+use Rattle.std.proofs.Common.{ap, ◌∙◌}
 use Rattle.outside.specs.Reading.{placed}
 use Rattle.orc_columns.specs.Decoders.{PresentOf}
 use Rattle.orc_columns.proofs.FlagBatches.{next_flags_seen, all_set_seen}

@@ -1,4 +1,3 @@
-use Rattle.std.proofs.Common.{rules, ◌≡◌, None, Ok, Err, true}
 use Rattle.std.proofs.lemmas.Result.{err_from_is_err_and}
 use Rattle.orc_columns.proofs.FlagBatches.{first_flags_seen, first_fault_seen}
 use Rattle.orc_columns.proofs.present.Present.fill_first.Goals as goal

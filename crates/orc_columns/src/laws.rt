@@ -1,0 +1,10 @@
+//! Laws of columns, as contracts of functions that do nothing.
+ghost use Rattle.orc_columns.specs.Laws.{NeverBoth, IsOneList, IsOneFault};
+
+/// A column of so many rows has one list of values, or is refused by one condition, and never both: and where it has
+/// values in some rows, it isn't refused in fewer.
+pub fn a_column_is_one()
+    ensures never_both { NeverBoth }
+    ensures one_list { IsOneList }
+    ensures one_fault { IsOneFault }
+{}
