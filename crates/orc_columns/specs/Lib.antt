@@ -1,3 +1,4 @@
+pub mod Batches
 pub mod Column
 pub mod Decoders
 pub mod Draws
@@ -8,4 +9,5 @@ pub mod Midway
 pub mod Numbers
 pub mod Optional
 pub mod Present
+pub mod Reader
 pub mod Spelling

@@ -2,8 +2,11 @@
 #![tactic(auto)]
 
 mod bit_stream;
+mod column_reader;
+mod dictionary;
 mod fault;
 mod flags;
+mod fills;
 mod integers;
 mod judging;
 pub mod laws;
@@ -11,8 +14,10 @@ mod numbers;
 mod plan;
 mod present;
 mod spelling;
+mod text_reader;
 mod value_reader;
 
+pub use column_reader::ColumnReader;
 pub use fault::{ColumnFault, StreamName};
 pub use judging::first_fault;
 pub use orc_values::{Column, ColumnValues, Columns, Texts, Value, ValueRef};

@@ -1,30 +1,25 @@
 //! The values of a column that aren't null, a batch at a time.
+ghost use Rattle.std.specs.Prelude.{◌≡◌, ◌≤◌, length, OnOk, IfOk, IfErr};
+ghost use Rattle.orc_values.specs.Column.{entries_in};
+ghost use Rattle.orc_values.specs.Woven.{present_count};
+ghost use Rattle.orc_columns.specs.declared.plan.ColumnPlan.{ColumnPlan};
+ghost use Rattle.orc_columns.specs.declared.value_reader.ValueReader.TheVariants as reader;
+ghost use Rattle.orc_columns.specs.Batches.{HoldsNoRead, IsTyped, ReadsPlan, ValuesGoOn, ValuesBreak, ValuesBegin, ValuesFailAtStart};
+ghost use Rattle.orc_columns.specs.Draws.{StreamsDiffer, Draws};
+ghost use Rattle.orc_columns.specs.Midway.{spelling_in};
+ghost use Rattle.orc_columns.specs.Reader.{HasLengths};
 
 use crate::bit_stream::BitStream;
+use crate::dictionary::{DictionaryReader, dictionary_rows, read_entries};
+use crate::fault::ColumnFault;
+use crate::fills::{fill_bits, fill_numbers};
 use crate::integers::Integers;
-use orc_values::Texts;
-
-/// Texts, each spelled by its length in LENGTH and its bytes in DATA.
-#[derive(Drop)]
-pub(crate) struct TextReader {
-    /// The lengths.
-    pub(crate) lengths: Integers,
-    /// The stream DATA.
-    pub(crate) data: Option<u32>,
-    /// How many bytes of DATA were taken.
-    pub(crate) used: u64,
-    /// How many bytes DATA has.
-    pub(crate) limit: u64,
-}
-
-/// Texts of a dictionary, each spelled by the number of its entry in DATA.
-#[derive(Drop)]
-pub(crate) struct DictionaryReader {
-    /// The entries.
-    pub(crate) entries: Texts,
-    /// The numbers of entries.
-    pub(crate) places: Integers,
-}
+use crate::plan::ColumnPlan;
+use crate::spelling::Spelling;
+use crate::text_reader::{TextReader, text_rows};
+use orc_values::{ColumnValues, count_present, spread};
+use outside::Feed;
+use std::alloc::Global;
 
 /// The values of a column that aren't null, by how they are spelled.
 #[derive(Drop)]
@@ -33,4 +28,138 @@ pub(crate) enum ValueReader {
     Integers(Integers),
     Texts(TextReader),
     Dictionary(DictionaryReader),
+}
+
+impl ValueReader {
+    /// The rows of the next batch, in the memory of an older one: a value for each flag that is set.
+    pub(crate) fn fill<F: Feed>(
+        &mut self,
+        alloc: Global,
+        feed: &mut F,
+        flags: &[bool],
+        older: ColumnValues,
+    ) -> Result<ColumnValues, ColumnFault>
+        requires { length flags.now ≤ 1024 }
+        ensures spelling { spelling_in self.new ≡ spelling_in self.old }
+        ensures rows { IfOk result (λ typed. entries_in typed ≡ length flags.now) }
+        ensures typed { IfOk result (IsTyped (spelling_in self.old)) }
+        ensures ready { (plan : ColumnPlan) → ReadsPlan plan self.old → OnOk result (ReadsPlan plan self.new) }
+        ensures no_read { IfErr result HoldsNoRead }
+        ensures draws { (plan : ColumnPlan) → StreamsDiffer plan → ReadsPlan plan self.old →
+            Draws F.rest F.fed F.fault_count plan feed.old feed.new
+            (ValuesGoOn plan.dictionary_size flags.now self.old self.new)
+            (ValuesBreak plan.dictionary_size (present_count flags.now) self.old) result }
+    {
+        match self {
+            ValueReader::Bits(bits) => bit_rows(bits, alloc, feed, flags, older),
+            ValueReader::Integers(integers) => number_rows(integers, alloc, feed, flags, older),
+            ValueReader::Texts(texts) => text_rows(texts, alloc, feed, flags, older),
+            ValueReader::Dictionary(dictionary) => {
+                dictionary_rows(dictionary, alloc, feed, flags, older)
+            }
+        }
+    }
+}
+
+/// The values of a column from the first on; a dictionary is read.
+pub(crate) fn start_values<F: Feed>(
+    alloc: Global,
+    plan: ColumnPlan,
+    spelling: Spelling,
+    feed: &mut F,
+) -> Result<ValueReader, ColumnFault>
+    requires differ { StreamsDiffer plan }
+    requires lens { HasLengths F.rest feed.old plan }
+    ensures spelling { IfOk result (λ values. spelling_in values ≡ spelling) }
+    ensures ready { IfOk result (ReadsPlan plan) }
+    ensures no_read { IfErr result HoldsNoRead }
+    ensures draws { Draws F.rest F.fed F.fault_count plan feed.old feed.new
+        (ValuesBegin plan.dictionary_size) (ValuesFailAtStart plan.dictionary_size spelling) result }
+{
+    match spelling {
+        Spelling::Bits => Ok(ValueReader::Bits(BitStream::new(plan.body))),
+        Spelling::Integers(version) => Ok(ValueReader::Integers(Integers::new(
+            plan.body, version, true,
+        ))),
+        Spelling::Texts(version) => Ok(ValueReader::Texts(TextReader {
+            lengths: Integers::new(plan.length, version, false),
+            data: plan.body,
+            used: 0,
+            limit: plan.body_len,
+        })),
+        Spelling::Dictionary(version) => {
+            let entries = read_entries(alloc, plan, version, feed)?;
+            Ok(ValueReader::Dictionary(DictionaryReader {
+                entries,
+                places: Integers::new(plan.body, version, false),
+            }))
+        }
+    }
+}
+
+/// The rows of a batch of truth values, in the memory of an older batch.
+fn bit_rows<F: Feed>(
+    bits: &mut BitStream,
+    alloc: Global,
+    feed: &mut F,
+    flags: &[bool],
+    older: ColumnValues,
+) -> Result<ColumnValues, ColumnFault>
+    ensures rows { IfOk result (λ typed. entries_in typed ≡ length flags.now) }
+    ensures typed { IfOk result (IsTyped (spelling_in (reader.Bits bits.old))) }
+    ensures ready { (plan : ColumnPlan) → ReadsPlan plan (reader.Bits bits.old) → OnOk result (ReadsPlan plan (reader.Bits bits.new)) }
+    ensures no_read { IfErr result HoldsNoRead }
+    ensures draws { (plan : ColumnPlan) → StreamsDiffer plan → ReadsPlan plan (reader.Bits bits.old) →
+        Draws F.rest F.fed F.fault_count plan feed.old feed.new
+        (ValuesGoOn plan.dictionary_size flags.now (reader.Bits bits.old) (reader.Bits bits.new))
+        (ValuesBreak plan.dictionary_size (present_count flags.now) (reader.Bits bits.old)) result }
+{
+    let mut entries = bool_memory(alloc, older);
+    entries.clear();
+    entries.resize(flags.len(), false)?;
+    fill_bits(bits, feed, &mut entries, count_present(flags))?;
+    spread(flags, &mut entries);
+    Ok(ColumnValues::Bools(entries))
+}
+
+/// The rows of a batch of numbers, in the memory of an older batch.
+fn number_rows<F: Feed>(
+    integers: &mut Integers,
+    alloc: Global,
+    feed: &mut F,
+    flags: &[bool],
+    older: ColumnValues,
+) -> Result<ColumnValues, ColumnFault>
+    ensures spelling { integers.new.version ≡ integers.old.version }
+    ensures rows { IfOk result (λ typed. entries_in typed ≡ length flags.now) }
+    ensures typed { IfOk result (IsTyped (spelling_in (reader.Integers integers.old))) }
+    ensures ready { (plan : ColumnPlan) → ReadsPlan plan (reader.Integers integers.old) → OnOk result (ReadsPlan plan (reader.Integers integers.new)) }
+    ensures no_read { IfErr result HoldsNoRead }
+    ensures draws { (plan : ColumnPlan) → StreamsDiffer plan → ReadsPlan plan (reader.Integers integers.old) →
+        Draws F.rest F.fed F.fault_count plan feed.old feed.new
+        (ValuesGoOn plan.dictionary_size flags.now (reader.Integers integers.old) (reader.Integers integers.new))
+        (ValuesBreak plan.dictionary_size (present_count flags.now) (reader.Integers integers.old)) result }
+{
+    let mut entries = number_memory(alloc, older);
+    entries.clear();
+    entries.resize(flags.len(), 0)?;
+    fill_numbers(integers, feed, &mut entries, count_present(flags))?;
+    spread(flags, &mut entries);
+    Ok(ColumnValues::Ints(entries))
+}
+
+/// The memory of an older batch of truth values, if it is one.
+fn bool_memory(alloc: Global, older: ColumnValues) -> Vec<bool> {
+    match older {
+        ColumnValues::Bools(entries) => entries,
+        _ => Vec::new(alloc),
+    }
+}
+
+/// The memory of an older batch of numbers, if it is one.
+fn number_memory(alloc: Global, older: ColumnValues) -> Vec<i64> {
+    match older {
+        ColumnValues::Ints(entries) => entries,
+        _ => Vec::new(alloc),
+    }
 }
