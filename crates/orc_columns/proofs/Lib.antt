@@ -15,3 +15,4 @@ mod OneSpelling
 mod Optional
 mod ReadingRows
 mod Summaries
+mod WholeColumns

@@ -4,6 +4,7 @@ use Rattle.orc_values.specs.declared.value.Value.{Value}
 use Rattle.orc_columns.specs.declared.fault.ColumnFault.{ColumnFault}
 use Rattle.orc_columns.specs.declared.plan.ColumnPlan.{ColumnPlan}
 use Rattle.orc_columns.specs.Column.{Streams, IsColumn, Fails}
+use Rattle.orc_columns.specs.Midway.{ReaderOf, Midway}
 
 -- a column that has values in some rows isn't refused in as many rows, or fewer
 abbrev pub NeverBoth : Type 0
@@ -16,3 +17,7 @@ IsOneList = (plan : ColumnPlan) (s : Streams) (values others : List Value) → l
 -- and the condition that refuses it is one
 abbrev pub IsOneFault : Type 0
 IsOneFault = (plan : ColumnPlan) (s : Streams) (rows : ℕ) (fault other : ColumnFault) → Fails plan s rows fault → Fails plan s rows other → fault ≡ other
+
+-- the rows that a reader has given are the column's first
+abbrev pub GivesTheColumn : Type 0
+GivesTheColumn = (r : ReaderOf) (start : Streams) (given : List Value) (rest : Streams) → Midway r start given rest → IsColumn r.plan start given
