@@ -1,21 +1,18 @@
 -- A reader before the first row.
-use Rattle.std.proofs.Common.{◌≡◌, ℕ, ◌+◌, ◌≤◌, Bool, true, false, List, [], ◌∷◌, length, drop, Option, Some, None, refl, sym, ◌∙◌, ap, subst, arith}
-use Rattle.std.specs.Prelude.{All}
-use Rattle.outside.specs.declared.run_fault.RunFault.{RunFault}
+use Rattle.std.proofs.Common.{◌≡◌, ℕ, true, false, List, [], ◌∷◌, length, Option, Some, None, refl, sym, ◌∙◌, subst, arith}
 use Rattle.outside.specs.Runs.{Between}
 use Rattle.outside.proofs.Runs.{Between-start}
 use Rattle.orc_rle.specs.BitRun.{BitRun}
-use Rattle.orc_values.specs.declared.value.Value.{Value}
 use Rattle.orc_columns.specs.declared.fault.ColumnFault.{ColumnFault}
 use Rattle.orc_columns.specs.declared.plan.ColumnPlan.{ColumnPlan}
 use Rattle.orc_columns.specs.declared.spelling.Spelling.{Spelling}
 use Rattle.orc_columns.specs.declared.spelling.Version.{Version}
 use Rattle.orc_columns.specs.declared.value_reader.ValueReader.{ValueReader}
 use Rattle.orc_columns.specs.declared.value_reader.ValueReader.TheVariants as reader
-use Rattle.orc_columns.specs.Batches.{ValuesBegin, ValuesFailAtStart, EntriesRead, EntriesFail}
-use Rattle.orc_columns.specs.Column.{Streams, ArePresent, AreLengths, ValuesFail, entries, Fails, encoding, values}
+use Rattle.orc_columns.specs.Batches.{ValuesBegin, ValuesFailAtStart, EntriesRead}
+use Rattle.orc_columns.specs.Column.{Streams, ArePresent, AreLengths, values}
 use Rattle.orc_columns.specs.Decoders.{BitsOf, IntegersOf, new_present, first_state}
-use Rattle.orc_columns.specs.Midway.{ValuesBetween, Midway, spelling_in}
+use Rattle.orc_columns.specs.Midway.{spelling_in}
 use Rattle.orc_columns.specs.Optional.{rest_in}
 use Rattle.orc_columns.specs.Present.{PresentBetween}
 use Rattle.orc_columns.specs.Reader.{whole_reader, Begins, FailsAtStart}
@@ -30,8 +27,8 @@ bits_begin size s b none = (refl, ([], nothing_read BitRun s.body s.body b.held 
 pub numbers_begin : (size : ℕ) (s : Streams) (i : IntegersOf) → i.held ≡ [] → ValuesBegin size s s (reader.Integers i)
 numbers_begin size s i none = (refl, ([], nothing_read (IntRun i.version true) s.body s.body i.held none refl, refl))
 
-pub texts_begin : (size : ℕ) (s : Streams) (i : IntegersOf) (body : Option ℕ) (limit : ℕ) → i.held ≡ [] → limit ≡ length s.body → ValuesBegin size s s (reader.Texts (record { lengths = i; «data» = body; used = 0; limit = limit }))
-texts_begin size s i body limit none len = (refl, ([], nothing_read (IntRun i.version false) s.lengths s.lengths i.held none refl, omega arith, refl, len, refl, refl))
+pub texts_begin : (size : ℕ) (s : Streams) (i : IntegersOf) (body : Option ℕ) (left : ℕ) → i.held ≡ [] → left ≡ length s.body → ValuesBegin size s s (reader.Texts (record { lengths = i; «data» = body; left = left }))
+texts_begin size s i body left none len = (refl, ([], nothing_read (IntRun i.version false) s.lengths s.lengths i.held none refl, omega arith, refl, refl))
 
 pub dictionary_begins : (size : ℕ) (b a : Streams) (i : IntegersOf) (version : Version) (texts : List (List ℕ)) → i.held ≡ [] → i.version ≡ version → EntriesRead version size b a texts → ValuesBegin size b a (reader.Dictionary (record { entries = texts; places = i }))
 dictionary_begins size b a i version texts none of_version read = (

@@ -1,9 +1,8 @@
 -- From the values that aren't null to the rows of a batch.
-use Rattle.std.proofs.Common.{◌≡◌, ℕ, ◌+◌, ◌≤◌, Bool, true, false, List, [], ◌∷◌, ◌++◌, length, take, map, Option, Some, None, Ok, Err, ℤ, refl, sym, ◌∙◌, ap, subst, arith, length-append}
+use Rattle.std.proofs.Common.{◌≡◌, ℕ, ◌+◌, ◌≤◌, Bool, true, false, List, [], ◌∷◌, ◌++◌, length, take, map, Option, ℤ, refl, sym, ◌∙◌, ap, subst, arith}
 use Rattle.std.proofs.lemmas.List.{map-append, length-map, length-take-le, with_items_is}
 use Rattle.std.specs.Prelude.{Vec}
 use Rattle.std.specs.Vec.{with_items}
-use Rattle.outside.specs.declared.run_fault.RunFault.{RunFault}
 use Rattle.outside.specs.Runs.{Between, Breaks}
 use Rattle.orc_rle.specs.BitRun.{BitRun, bit_run}
 use Rattle.orc_values.specs.declared.column_values.ColumnValues.{ColumnValues}
@@ -12,14 +11,11 @@ use Rattle.orc_values.specs.declared.value.Value.TheVariants as value
 use Rattle.orc_values.specs.Column.{column_of, value_by}
 use Rattle.orc_values.specs.Woven.{present_count, woven, aligned}
 use Rattle.orc_columns.specs.declared.fault.ColumnFault.{ColumnFault}
-use Rattle.orc_columns.specs.declared.fault.ColumnFault.TheVariants.{Run}
-use Rattle.orc_columns.specs.declared.fault.StreamName.TheVariants as name
 use Rattle.orc_columns.specs.declared.spelling.Version.{Version}
 use Rattle.orc_columns.specs.declared.value_reader.ValueReader.TheVariants as reader
 use Rattle.orc_columns.specs.Batches.{NumbersGoOn, NumbersBreak, BitsGoOn, BitsBreak, ValuesGoOn, ValuesBreak}
-use Rattle.orc_columns.specs.Column.{Streams, ValuesFail, bits, integers, row_value, rows_of}
+use Rattle.orc_columns.specs.Column.{Streams, bits, integers, rows_of}
 use Rattle.orc_columns.specs.Decoders.{BitsOf, IntegersOf}
-use Rattle.orc_columns.specs.Midway.{ValuesBetween, spelling_in}
 use Rattle.orc_columns.specs.Spelling.{IntRun, int_run}
 
 -- values that are woven into rows are the rows' values

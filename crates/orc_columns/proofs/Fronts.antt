@@ -1,5 +1,5 @@
 -- Values that are read to the front of a list.
-use Rattle.std.proofs.Common.{◌≡◌, ℕ, ◌+◌, Bool, List, [], ◌∷◌, ◌++◌, length, take, Option, Ok, Err, ℤ, refl, sym, ◌∙◌, ap, subst}
+use Rattle.std.proofs.Common.{◌≡◌, ℕ, Bool, List, [], ◌++◌, length, take, Option, Ok, ℤ, refl, subst}
 use Rattle.std.specs.Prelude.{Result}
 use Rattle.std.proofs.Math.Seq.{take-append_seam}
 use Rattle.outside.specs.declared.run_fault.RunFault.{RunFault}

@@ -2,6 +2,7 @@ mod Beginnings
 mod Decoders
 mod DenseRows
 mod Drawing
+mod EntryRows
 mod FlagBatches
 mod FlagsFollowing
 mod Following
@@ -13,6 +14,11 @@ mod NumberBatches
 mod OneColumn
 mod OneSpelling
 mod Optional
+mod PlaceRows
 mod ReadingRows
 mod Summaries
+mod Taking
+mod TextLengths
+mod TextRows
 mod WholeColumns
+mod WholeDictionary

@@ -1,12 +1,10 @@
 -- From the flags and the values of a batch to its rows.
-use Rattle.std.proofs.Common.{◌≡◌, ◌≢◌, ℕ, ◌+◌, Bool, true, false, List, [], ◌∷◌, ◌++◌, length, map, replicate, Option, Some, None, Ok, Err, refl, sym, ◌∙◌, ap, subst, arith, length-append}
+use Rattle.std.proofs.Common.{◌≡◌, ℕ, ◌+◌, Bool, List, [], ◌∷◌, ◌++◌, length, map, Option, Some, None, Ok, Err, refl, sym, ◌∙◌, ap, subst, arith, length-append}
 use Rattle.std.specs.Prelude.{Result, OnOk, IfErr, IfSome}
 use Rattle.std.specs.Result.{result_err}
 use Rattle.std.proofs.lemmas.List.{map-append, length-map}
-use Rattle.outside.specs.declared.run_fault.RunFault.{RunFault}
 use Rattle.outside.specs.Reading.{placed}
 use Rattle.outside.specs.Feed.{Taken, Lost, taken_of}
-use Rattle.outside.specs.Runs.{Between, Spells}
 use Rattle.outside.proofs.Runs.{Between-start}
 use Rattle.orc_rle.specs.BitRun.{BitRun}
 use Rattle.orc_values.specs.declared.column_values.ColumnValues.{ColumnValues}
@@ -24,10 +22,10 @@ use Rattle.orc_columns.specs.declared.spelling.Spelling.{Spelling}
 use Rattle.orc_columns.specs.declared.value_reader.ValueReader.{ValueReader}
 use Rattle.orc_columns.specs.declared.value_reader.ValueReader.TheVariants as reader
 use Rattle.orc_columns.specs.Batches.{HoldsNoRead, FlagsGoOn, FlagsBreak, ValuesGoOn, ValuesBreak}
-use Rattle.orc_columns.specs.Column.{Streams, ArePresent, PresentBreaks, ValuesFail, Fails, nulls, values, row_value, rows_of}
+use Rattle.orc_columns.specs.Column.{Streams, ArePresent, PresentBreaks, ValuesFail, nulls, values, row_value, rows_of}
 use Rattle.orc_columns.specs.Decoders.{PresentOf}
 use Rattle.orc_columns.specs.Draws.{StreamsDiffer, Draws}
-use Rattle.orc_columns.specs.Midway.{ReaderOf, ValuesBetween, Midway, spelling_in}
+use Rattle.orc_columns.specs.Midway.{ReaderOf, ValuesBetween, spelling_in}
 use Rattle.orc_columns.specs.Present.{PresentBetween}
 use Rattle.orc_columns.specs.Spelling.{spelling_of}
 use Rattle.orc_columns.proofs.Drawing.{Draws-then, Draws-ok, Draws-fault}

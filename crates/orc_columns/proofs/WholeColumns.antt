@@ -1,18 +1,18 @@
 -- The rows that a reader has given are the column's first.
-use Rattle.std.proofs.Common.{◌≡◌, ℕ, ◌+◌, ◌≤◌, Bool, List, Some, ℤ, refl, sym, ◌∙◌, ap, subst, arith, sum}
-use Rattle.std.specs.Prelude.{length, map}
+use Rattle.std.proofs.Common.{ℕ, List, ◌∙◌, ap, arith}
+use Rattle.std.specs.Prelude.{map}
 use Rattle.orc_values.specs.declared.value.Value.{Value}
 use Rattle.orc_columns.specs.declared.value_reader.ValueReader.{ValueReader}
 use Rattle.orc_columns.specs.declared.value_reader.ValueReader.TheVariants as reader
-use Rattle.orc_columns.specs.Column.{Streams, AreLengths, AreValues, IsColumn, entry_text, places_of}
+use Rattle.orc_columns.specs.Column.{Streams, AreValues, entry_text, places_of}
 use Rattle.orc_columns.specs.Laws.{GivesTheColumn}
-use Rattle.orc_columns.specs.Midway.{ReaderOf, ValuesBetween, Midway, spelling_in}
+use Rattle.orc_columns.specs.Midway.{ValuesBetween, spelling_in}
 use Rattle.orc_columns.proofs.JudgedColumns.{present_spelled}
 
 given_are_values : (size : ℕ) (start : Streams) (given : List Value) (v : ValueReader) (rest : Streams) → ValuesBetween size start given v rest → AreValues (spelling_in v) size start given
 given_are_values size start given (reader.Bits b) rest (bits, at, is) = (bits, rest.body, (b.held, at), is)
 given_are_values size start given (reader.Integers i) rest (numbers, at, is) = (numbers, (rest.body, (i.held, at)), is)
-given_are_values size start given (reader.Texts t) rest (lengths, at, within, used, limit, left, is) = (lengths, record { spelled = (rest.lengths, (t.lengths.held, at)); within = within }, is)
+given_are_values size start given (reader.Texts t) rest (lengths, at, whole, left, is) = (lengths, record { spelled = (rest.lengths, (t.lengths.held, at)); within = omega arith }, is)
 given_are_values size start given (reader.Dictionary d) rest (lengths, numbers, sized, are, entries, at, below, is) =
     (lengths, numbers, sized, are, (rest.body, (d.places.held, at)), below, is ∙ ap (λ (e : List (List ℕ)). map (entry_text e) (places_of numbers)) entries)
 

@@ -1,5 +1,7 @@
 -- A batch of a column: what filling it makes of the values that were given before. Source: this project's own.
-use Rattle.std.specs.Prelude.{◌≡◌, ℕ, ◌+◌, Bool, true, false, List, [], ◌++◌, length, Option, None, IsTrue, ℤ, ◌==◌}
+use Rattle.std.specs.Prelude.{◌≡◌, ℕ, ◌+◌, ◌<◌, ◌≤◌, Bool, true, false, List, [], ◌++◌, length, map, sum, pos, unsigned_abs, All, Contains, None, IsTrue, ℤ}
+use Rattle.std.specs.Int.{IsNonNegative}
+use Rattle.outside.specs.Runs.{Between}
 use Rattle.outside.specs.declared.run_fault.RunFault.TheVariants as run
 use Rattle.orc_rle.specs.BitRun.{BitRun, bit_run}
 use Rattle.orc_values.specs.declared.column_values.ColumnValues.{ColumnValues}
@@ -18,7 +20,7 @@ use Rattle.orc_columns.specs.declared.spelling.Spelling.TheVariants.{Bits, Integ
 use Rattle.orc_columns.specs.declared.spelling.Version.{Version}
 use Rattle.orc_columns.specs.declared.value_reader.ValueReader.{ValueReader}
 use Rattle.orc_columns.specs.declared.value_reader.ValueReader.TheVariants as reader
-use Rattle.orc_columns.specs.Column.{Streams, AreLengths, LengthsFail, ValuesFail, rows_of}
+use Rattle.orc_columns.specs.Column.{Streams, IsNegative, AreLengths, LengthsFail, ValuesFail, rows_of}
 use Rattle.orc_columns.specs.Decoders.{BitsOf, IntegersOf, PresentOf}
 use Rattle.orc_columns.specs.Draws.{OnlyPresent, OnlyBody, OnlyLengths, GoesOn, BreaksOn}
 use Rattle.orc_columns.specs.Midway.{ValuesBetween, spelling_in}
@@ -77,6 +79,29 @@ BitsGoOn old new before after bits = OnlyBody before after × GoesOn BitRun old.
 
 abbrev pub BitsBreak : BitsOf → ℕ → Streams → ColumnFault → Type 0
 BitsBreak old asked before fault = BreaksOn BitRun bit_run name.Body old.held asked before.body fault
+
+-- ---- lengths of texts, and their bytes
+
+-- These are the numbers of texts' lengths: none is negative, and together they are so many bytes, for which there is room.
+pub record TotalOf (numbers : List ℤ) (room total : ℕ) : Type 0 where
+  pub positive : All IsNonNegative numbers
+  pub total_is : total ≡ sum (map unsigned_abs numbers)
+  pub within : total ≤ room
+
+-- these numbers are no lengths: one is negative, or there is no room for so many bytes
+abbrev pub AreRefused : List ℤ → ℕ → ColumnFault → Type 0
+AreRefused numbers room BadEncoding = ⊥
+AreRefused numbers room (Run name fault) = ⊥
+AreRefused numbers room NegativeLength = (number : ℤ) × Contains numbers number × IsNegative number
+AreRefused numbers room LengthsPastData = All IsNonNegative numbers × (room < sum (map unsigned_abs numbers))
+AreRefused numbers room IndexOutOfDictionary = ⊥
+AreRefused numbers room (Read failed) = ⊥
+AreRefused numbers room NoMemory = ⊥
+
+-- with the lengths that were given before, which left so much room, the fault is the first of so many lengths more
+abbrev pub LengthsRefuse : IntegersOf → ℕ → ℕ → Streams → ColumnFault → Type 0
+LengthsRefuse old asked room before fault =
+    (start : List ℕ) (given : List ℕ) → Between (IntRun old.version false) start (map pos given) old.held before.lengths → LengthsFail old.version start (room + sum given) (length given + asked) fault
 
 -- ---- values
 

@@ -2,6 +2,7 @@ pub mod Batches
 pub mod Column
 pub mod Decoders
 pub mod Draws
+pub mod Entries
 pub mod FirstFault
 pub mod Flags
 pub mod Laws
@@ -11,3 +12,4 @@ pub mod Optional
 pub mod Present
 pub mod Reader
 pub mod Spelling
+pub mod Takes

@@ -1,5 +1,5 @@
 -- A reader of a column between two batches. Source: this project's own.
-use Rattle.std.specs.Prelude.{◌≡◌, ℕ, ◌<◌, ◌≤◌, Bool, true, false, List, length, map, drop, sum, Option, Some, All, ℤ, pos}
+use Rattle.std.specs.Prelude.{◌≡◌, ℕ, ◌+◌, ◌<◌, Bool, true, false, List, length, map, drop, sum, Option, Some, All, ℤ, pos}
 use Rattle.outside.specs.Runs.{Between}
 use Rattle.orc_rle.specs.BitRun.{BitRun}
 use Rattle.orc_values.specs.declared.value.Value.{Value}
@@ -26,7 +26,7 @@ ValuesBetween size start given (reader.Integers i) rest =
     (numbers : List ℤ) × Between (IntRun i.version true) start.body numbers i.held rest.body × (given ≡ map (λ n. value.Int n) numbers)
 ValuesBetween size start given (reader.Texts t) rest =
     (lengths : List ℕ) × Between (IntRun t.lengths.version false) start.lengths (map pos lengths) t.lengths.held rest.lengths
-    × (sum lengths ≤ length start.body) × (t.used ≡ sum lengths) × (t.limit ≡ length start.body) × (rest.body ≡ drop (sum lengths) start.body)
+    × (t.left + sum lengths ≡ length start.body) × (rest.body ≡ drop (sum lengths) start.body)
     × (given ≡ map (λ t. value.Text t) (slices 0 lengths start.body))
 ValuesBetween size start given (reader.Dictionary d) rest =
     (lengths : List ℕ) × (numbers : List ℤ) × (length lengths ≡ size) × AreLengths d.places.version start.lengths (length start.dictionary) lengths

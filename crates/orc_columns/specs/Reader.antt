@@ -8,6 +8,7 @@ use Rattle.orc_columns.specs.Batches.{HoldsNoRead, ReadsPlan}
 use Rattle.orc_columns.specs.Column.{Streams, Fails}
 use Rattle.orc_columns.specs.Decoders.{PresentOf}
 use Rattle.orc_columns.specs.Draws.{StreamsDiffer, Tells}
+use Rattle.orc_columns.specs.FirstFault.{Sized}
 use Rattle.orc_columns.specs.Midway.{ReaderOf, Midway, spelling_in}
 use Rattle.orc_columns.specs.Spelling.{spelling_of}
 
@@ -46,4 +47,4 @@ FailsAtStart plan before fault = Fails plan before 0 fault
 
 -- where the feed tells the plan's streams, the plan has the lengths of those with texts
 abbrev pub HasLengths : {F : Type 0} → (F → ℕ → Option (List ℕ)) → F → ColumnPlan → Type 0
-HasLengths rest feed plan = (s : Streams) → Tells rest feed plan s → (plan.body_len ≡ length s.body) × (plan.dictionary_len ≡ length s.dictionary)
+HasLengths rest feed plan = (s : Streams) → Tells rest feed plan s → Sized plan s

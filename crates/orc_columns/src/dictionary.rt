@@ -1,21 +1,34 @@
 //! Texts of a dictionary.
-ghost use Rattle.std.specs.Prelude.{◌≡◌, ◌≤◌, length, OnOk, IfOk, IfErr};
+ghost use Rattle.std.specs.Prelude.{◌≡◌, ◌<◌, ◌≤◌, ◌^◌, ℕ, [], length, map, sum, unsigned_abs, All, Contains, OnOk, IfOk, IfErr, IsTrue, IsFalse};
+ghost use Rattle.std.specs.Int.{w64, cast_unsigned, IsNonNegative};
+ghost use Rattle.outside.specs.Reading.{placed};
+ghost use Rattle.orc_values.specs.Texts.{running_ends};
+ghost use Rattle.orc_columns.specs.declared.fault.ColumnFault.TheVariants as fault;
+ghost use Rattle.orc_columns.specs.Column.{places_of};
+ghost use Rattle.orc_columns.specs.Entries.{row_texts, chosen, IsOutOf, LengthsRead};
 ghost use Rattle.orc_values.specs.Column.{entries_in};
 ghost use Rattle.orc_values.specs.Woven.{present_count};
 ghost use Rattle.orc_columns.specs.declared.plan.ColumnPlan.{ColumnPlan};
 ghost use Rattle.orc_columns.specs.declared.value_reader.ValueReader.TheVariants as reader;
-ghost use Rattle.orc_columns.specs.Batches.{HoldsNoRead, IsTyped, ReadsPlan, ValuesGoOn, ValuesBreak, EntriesRead, EntriesFail};
+ghost use Rattle.orc_columns.specs.Batches.{HoldsNoRead, IsTyped, TotalOf, ReadsPlan, ValuesGoOn, ValuesBreak, EntriesRead, EntriesFail};
 ghost use Rattle.orc_columns.specs.Draws.{StreamsDiffer, Draws};
 ghost use Rattle.orc_columns.specs.Midway.{spelling_in};
 ghost use Rattle.orc_columns.specs.Reader.{HasLengths};
 
+use crate::entry_lengths::push_all_lengths;
 use crate::fault::ColumnFault;
+use crate::fills::fill_numbers;
 use crate::integers::Integers;
+use crate::lengths::total_of;
 use crate::plan::ColumnPlan;
 use crate::spelling::Version;
-use orc_values::{ColumnValues, Texts};
-use outside::Feed;
+use crate::text_bytes::read_bytes;
+use orc_values::{ColumnValues, Texts, count_present};
+use outside::{Feed, NoMemory};
 use std::alloc::Global;
+
+/// The greatest number of rows of a batch.
+const BATCH: usize = 1024;
 
 /// Texts of a dictionary, each spelled by the number of its entry in DATA.
 #[derive(Drop)]
@@ -45,7 +58,100 @@ pub(crate) fn dictionary_rows<F: Feed>(
         (ValuesGoOn plan.dictionary_size flags.now (reader.Dictionary dictionary.old) (reader.Dictionary dictionary.new))
         (ValuesBreak plan.dictionary_size (present_count flags.now) (reader.Dictionary dictionary.old)) result }
 {
-    Err(ColumnFault::NoMemory)
+    let count = count_present(flags);
+    let mut places = [0; BATCH];
+    fill_numbers(&mut dictionary.places, feed, &mut places, count)?;
+    let (places, _) = places.split_at(count);
+    let texts = looked_up(
+        &dictionary.entries,
+        flags,
+        places,
+        texts_memory(alloc, older),
+    )?;
+    Ok(ColumnValues::Texts(texts))
+}
+
+/// The memory of an older batch of texts, if it is one, without its texts.
+fn texts_memory(alloc: Global, older: ColumnValues) -> Texts
+    ensures { result ≡ [] }
+{
+    match older {
+        ColumnValues::Texts(texts) => {
+            let mut texts = texts;
+            texts.clear();
+            texts
+        }
+        _ => Texts::empty(alloc),
+    }
+}
+
+/// The texts of rows, by the numbers of the entries of those that aren't null.
+///
+/// Answers `IndexOutOfDictionary` where a number isn't below the number of entries.
+fn looked_up(
+    entries: &Texts,
+    flags: &[bool],
+    places: &[i64],
+    texts: Texts,
+) -> Result<Texts, ColumnFault>
+    requires dense { length places.now ≡ present_count flags.now }
+    requires none { texts ≡ [] }
+    ensures below { IfOk result (λ _. All (λ place. place < length entries.now) (places_of places.now)) }
+    ensures texts { IfOk result (λ texts. texts ≡ row_texts flags.now (chosen entries.now (places_of places.now))) }
+    ensures refused { IfErr result (IsOutOf entries.now places.now) }
+{
+    if is_any_past(places, entries.len()) {
+        return Err(ColumnFault::IndexOutOfDictionary);
+    }
+    let mut texts = texts;
+    if push_rows(entries, flags, places, &mut texts).is_err() {
+        return Err(ColumnFault::NoMemory);
+    }
+    Ok(texts)
+}
+
+/// Whether a number isn't below that of the entries.
+fn is_any_past(places: &[i64], size: usize) -> bool
+    ensures some { IsTrue result → (place : ℕ) × Contains (places_of places.now) place × (size ≤ place) }
+    ensures none { IsFalse result → All (λ place. place < size) (places_of places.now) }
+{
+    for place in places {
+        if number_of(*place) >= size {
+            return true;
+        }
+    }
+    false
+}
+
+/// The number of an entry, by its 64 bits.
+fn number_of(place: i64) -> usize
+    ensures { result ≡ cast_unsigned w64 place }
+{
+    place.cast_unsigned() as usize
+}
+
+/// Adds the text of each row: an entry, or an empty one where the flag isn't set.
+fn push_rows(
+    entries: &Texts,
+    flags: &[bool],
+    places: &[i64],
+    texts: &mut Texts,
+) -> Result<(), NoMemory>
+    requires dense { length places.now ≡ present_count flags.now }
+    requires below { All (λ place. place < length entries.now) (places_of places.now) }
+    requires none { texts.old ≡ [] }
+    ensures { OnOk result (texts.new ≡ row_texts flags.now (chosen entries.now (places_of places.now))) }
+{
+    let mut used = 0;
+    for present in flags {
+        if *present {
+            texts.push(entries.get(number_of(places[used])))?;
+            used += 1;
+        } else {
+            texts.push(b"".as_slice())?;
+        }
+    }
+    Ok(())
 }
 
 /// The entries of a dictionary: all its lengths are read, and then the bytes of all its texts at once.
@@ -61,5 +167,46 @@ pub(crate) fn read_entries<F: Feed>(
     ensures draws { Draws F.rest F.fed F.fault_count plan feed.old feed.new
         (EntriesRead version plan.dictionary_size) (EntriesFail version plan.dictionary_size) result }
 {
-    Err(ColumnFault::NoMemory)
+    let mut lengths = Vec::new(alloc);
+    let total = entry_lengths(plan, version, feed, &mut lengths)?;
+    let ends = ends_of(alloc, &lengths)?;
+    let mut bytes = Vec::new(alloc);
+    read_bytes(feed, plan.dictionary, &mut bytes, total)?;
+    Ok(Texts::new(bytes, ends))
+}
+
+/// Reads the lengths of all entries, and answers how many bytes they are together.
+fn entry_lengths<F: Feed>(
+    plan: ColumnPlan,
+    version: Version,
+    feed: &mut F,
+    lengths: &mut Vec<i64>,
+) -> Result<u64, ColumnFault>
+    requires differ { StreamsDiffer plan }
+    requires lens { HasLengths F.rest feed.old plan }
+    requires none { lengths.old.items ≡ [] }
+    ensures total { IfOk result (TotalOf lengths.new.items plan.dictionary_len) }
+    ensures no_read { IfErr result HoldsNoRead }
+    ensures draws { Draws F.rest F.fed F.fault_count plan feed.old feed.new
+        (LengthsRead version plan.dictionary_size) (EntriesFail version plan.dictionary_size) (placed lengths.new.items result) }
+{
+    let mut integers = Integers::new(plan.length, version, false);
+    push_all_lengths(&mut integers, feed, lengths, plan.dictionary_size)?;
+    total_of(lengths, plan.dictionary_len)
+}
+
+/// The ends of texts by their lengths.
+fn ends_of(alloc: Global, lengths: &[i64]) -> Result<Vec<usize>, ColumnFault>
+    requires positive { All IsNonNegative lengths.now }
+    requires fits { sum (map unsigned_abs lengths.now) < 2 ^ 64 }
+    ensures ends { IfOk result (λ ends. ends.items ≡ running_ends 0 (map unsigned_abs lengths.now)) }
+    ensures refused { IfErr result (λ e. e ≡ fault.NoMemory) }
+{
+    let mut ends = Vec::new(alloc);
+    let mut end = 0;
+    for length in lengths {
+        end += *length as usize;
+        ends.push(end)?;
+    }
+    Ok(ends)
 }

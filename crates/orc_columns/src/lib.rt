@@ -4,16 +4,19 @@
 mod bit_stream;
 mod column_reader;
 mod dictionary;
+mod entry_lengths;
 mod fault;
-mod flags;
 mod fills;
+mod flags;
 mod integers;
 mod judging;
 pub mod laws;
+mod lengths;
 mod numbers;
 mod plan;
 mod present;
 mod spelling;
+mod text_bytes;
 mod text_reader;
 mod value_reader;
 

@@ -1,7 +1,9 @@
 //! Texts that are spelled one by one.
-ghost use Rattle.std.specs.Prelude.{◌≡◌, ◌≤◌, length, OnOk, IfOk, IfErr};
+ghost use Rattle.std.specs.Prelude.{◌≡◌, ◌≤◌, length, map, sum, unsigned_abs, All, OnOk, IfOk, IfErr};
+ghost use Rattle.std.specs.Int.{IsNonNegative};
 ghost use Rattle.orc_values.specs.Column.{entries_in};
-ghost use Rattle.orc_values.specs.Woven.{present_count};
+ghost use Rattle.orc_values.specs.Texts.{slices};
+ghost use Rattle.orc_values.specs.Woven.{present_count, woven, aligned};
 ghost use Rattle.orc_columns.specs.declared.plan.ColumnPlan.{ColumnPlan};
 ghost use Rattle.orc_columns.specs.declared.value_reader.ValueReader.TheVariants as reader;
 ghost use Rattle.orc_columns.specs.Batches.{HoldsNoRead, IsTyped, ReadsPlan, ValuesGoOn, ValuesBreak};
@@ -10,9 +12,14 @@ ghost use Rattle.orc_columns.specs.Midway.{spelling_in};
 
 use crate::fault::ColumnFault;
 use crate::integers::Integers;
-use orc_values::ColumnValues;
+use crate::lengths::next_lengths;
+use crate::text_bytes::read_bytes;
+use orc_values::{ColumnValues, Texts, count_present, lay_ends};
 use outside::Feed;
 use std::alloc::Global;
+
+/// The greatest number of rows of a batch.
+const BATCH: usize = 1024;
 
 /// Texts, each spelled by its length in LENGTH and its bytes in DATA.
 #[derive(Drop)]
@@ -21,10 +28,8 @@ pub(crate) struct TextReader {
     pub(crate) lengths: Integers,
     /// The stream DATA.
     pub(crate) data: Option<u32>,
-    /// How many bytes of DATA were taken.
-    pub(crate) used: u64,
-    /// How many bytes DATA has.
-    pub(crate) limit: u64,
+    /// How many bytes of DATA are left.
+    pub(crate) left: u64,
 }
 
 /// The rows of a batch of texts, in the memory of an older batch.
@@ -46,5 +51,36 @@ pub(crate) fn text_rows<F: Feed>(
         (ValuesGoOn plan.dictionary_size flags.now (reader.Texts texts.old) (reader.Texts texts.new))
         (ValuesBreak plan.dictionary_size (present_count flags.now) (reader.Texts texts.old)) result }
 {
-    Err(ColumnFault::NoMemory)
+    let (mut bytes, mut ends) = text_memory(alloc, older);
+    ends.clear();
+    ends.resize(flags.len(), 0)?;
+    let count = count_present(flags);
+    let mut lengths = [0; BATCH];
+    let total = next_lengths(&mut texts.lengths, feed, &mut lengths, count, texts.left)?;
+    read_bytes(feed, texts.data, &mut bytes, total)?;
+    texts.left -= total;
+    let (lengths, _) = lengths.split_at(count);
+    Ok(ColumnValues::Texts(laid_texts(flags, lengths, bytes, ends)))
+}
+
+/// The memory of an older batch of texts, if it is one: for their bytes and for their ends.
+pub(crate) fn text_memory(alloc: Global, older: ColumnValues) -> (Vec<u8>, Vec<usize>) {
+    match older {
+        ColumnValues::Texts(texts) => texts.into_parts(),
+        _ => (Vec::new(alloc), Vec::new(alloc)),
+    }
+}
+
+/// The texts of rows, by the lengths of those that aren't null and by their bytes.
+fn laid_texts(flags: &[bool], lengths: &[i64], bytes: Vec<u8>, ends: Vec<usize>) -> Texts
+    requires rows { length ends.items ≡ length flags.now }
+    requires dense { length lengths.now ≡ present_count flags.now }
+    requires positive { All IsNonNegative lengths.now }
+    requires all { sum (map unsigned_abs lengths.now) ≡ length bytes.items }
+    ensures rows { length result ≡ length flags.now }
+    ensures texts { aligned flags.now result ≡ woven flags.now (slices 0 (map unsigned_abs lengths.now) bytes.items) }
+{
+    let mut ends = ends;
+    lay_ends(flags, lengths, 0, &mut ends);
+    Texts::new(bytes, ends)
 }

@@ -84,8 +84,7 @@ pub(crate) fn start_values<F: Feed>(
         Spelling::Texts(version) => Ok(ValueReader::Texts(TextReader {
             lengths: Integers::new(plan.length, version, false),
             data: plan.body,
-            used: 0,
-            limit: plan.body_len,
+            left: plan.body_len,
         })),
         Spelling::Dictionary(version) => {
             let entries = read_entries(alloc, plan, version, feed)?;

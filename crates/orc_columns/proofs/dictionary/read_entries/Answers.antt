@@ -1,9 +1,34 @@
-use Rattle.orc_columns.specs.declared.fault.ColumnFault.TheVariants.{NoMemory}
-use Rattle.orc_columns.proofs.Drawing.{Draws-refused}
+use Rattle.std.proofs.Common.{◌≡◌, List, length, map, unsigned_abs, ℤ, refl, ◌∙◌, ap}
+use Rattle.std.proofs.lemmas.Result.{err_from_is_err_and}
+use Rattle.orc_values.specs.Texts.{running_ends}
+use Rattle.orc_columns.proofs.WholeDictionary.{ends_within, dictionary_read, dictionary_fault}
 use Rattle.orc_columns.proofs.dictionary.read_entries.Goals as goal
+
+pub returns-in_err-read_bytes-clause-draws : goal.returns-in_err-read_bytes-clause-draws
+returns-in_err-read_bytes-clause-draws g c =
+    let f = g.F.Feed in
+    let m = g.met.F.Feed in
+    let plan = c.args.plan in
+    let numbers : List ℤ = c.entry_lengths.new.lengths.items in
+    let p = err_from_is_err_and c.from_residual-in_err-read_bytes.result c.from_residual-in_err-read_bytes.ensures.1 in
+    rw (p.1, p.2) (dictionary_fault f.rest f.fed f.fault_count plan m.fed_lost m.fed_nothing m.fed_joined c.args.version plan.dictionary_size plan.dictionary_len c.in_ok-total.total numbers c.in_ok-total.ensures.total
+    c.args.feed.now c.entry_lengths.new.feed c.read_bytes.new.feed (λ s tells. (c.requires.lens s tells).1) c.in_ok-total.ensures.draws c.in_err-read_bytes.field-0.0 (c.in_err-read_bytes.ensures.dictionary plan c.requires.differ refl))
+
+pub new-requires : goal.new-requires
+new-requires g c =
+    let f = g.F.Feed in
+    let m = g.met.F.Feed in
+    let numbers : List ℤ = c.entry_lengths.new.lengths.items in
+    let ends : c.in_ok-ends.ends.items ≡ running_ends 0 (map unsigned_abs numbers) = c.in_ok-ends.ensures.ends ∙ ap (λ (l : List ℤ). running_ends 0 (map unsigned_abs l)) c.deref.ensures.value in
+    ends_within f.rest f.fed f.fault_count c.args.plan m.fed_lost m.fed_nothing m.fed_joined numbers c.args.plan.dictionary_len c.in_ok-total.total (length c.read_bytes.new.bytes.items) c.in_ok-ends.ends.items c.in_ok-total.ensures.total ends c.in_ok-read_bytes.ensures.len
 
 pub returns-clause-draws : goal.returns-clause-draws
 returns-clause-draws g c =
     let f = g.F.Feed in
     let m = g.met.F.Feed in
-    Draws-refused f.rest f.fed f.fault_count c.args.plan m.fed_lost m.fed_nothing m.fed_joined c.args.feed.now _ _ NoMemory (λ no. no) (λ s t. tt)
+    let plan = c.args.plan in
+    let numbers : List ℤ = c.entry_lengths.new.lengths.items in
+    let ends : c.in_ok-ends.ends.items ≡ running_ends 0 (map unsigned_abs numbers) = c.in_ok-ends.ensures.ends ∙ ap (λ (l : List ℤ). running_ends 0 (map unsigned_abs l)) c.deref.ensures.value in
+    dictionary_read f.rest f.fed f.fault_count plan m.fed_lost m.fed_nothing m.fed_joined c.args.version plan.dictionary_size plan.dictionary_len c.in_ok-total.total numbers c.in_ok-total.ensures.total
+    c.args.feed.now c.entry_lengths.new.feed c.read_bytes.new.feed (λ s tells. (c.requires.lens s tells).1) c.in_ok-total.ensures.draws
+    c.in_ok-ends.ends.items c.read_bytes.new.bytes.items c.new.result ends c.new.ensures (c.in_ok-read_bytes.ensures.dictionary plan c.requires.differ refl)

@@ -1,8 +1,4 @@
-use Rattle.std.proofs.Common.{◌≡◌, ℕ, Bool, List, length, refl, sym, ap, subst, Ok, Err}
-use Rattle.std.specs.Prelude.{Result}
-use Rattle.orc_columns.specs.declared.fault.ColumnFault.{ColumnFault}
-use Rattle.orc_columns.specs.Batches.{FlagsGoOn, FlagsBreak}
-use Rattle.orc_columns.specs.Draws.{Draws}
+use Rattle.std.proofs.Common.{length, Ok, Err}
 use Rattle.orc_columns.proofs.Drawing.{present_draws}
 use Rattle.orc_columns.proofs.fills.fill_flags.Goals as goal
 

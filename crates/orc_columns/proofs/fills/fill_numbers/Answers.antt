@@ -1,6 +1,4 @@
-use Rattle.std.proofs.Common.{◌≡◌, length, refl, sym, ◌∙◌, ap, Ok, Err}
-use Rattle.orc_columns.specs.Draws.{in_stream}
-use Rattle.orc_columns.specs.declared.fault.StreamName.TheVariants as name
+use Rattle.std.proofs.Common.{◌≡◌, length, sym, ◌∙◌, ap, Ok, Err}
 use Rattle.orc_columns.proofs.Fronts.{front_is, numbers_front}
 use Rattle.orc_columns.proofs.fills.fill_numbers.Goals as goal
 

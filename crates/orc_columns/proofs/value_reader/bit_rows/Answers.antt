@@ -1,13 +1,12 @@
-use Rattle.std.proofs.Common.{rules, ◌≡◌, ◌≤◌, length, ℕ, Bool, List, Option, map, take, refl, sym, ◌∙◌, ap, arith, Ok, Err, ℤ}
+use Rattle.std.proofs.Common.{◌≡◌, ◌≤◌, length, Bool, List, take, ◌∙◌, arith}
 use Rattle.std.proofs.lemmas.Result.{err_from_is_err_and}
 use Rattle.orc_values.specs.declared.value.Value.{Value}
 use Rattle.orc_values.specs.declared.value.Value.TheVariants as value
-use Rattle.orc_values.specs.Column.{value_by}
 use Rattle.orc_values.specs.Woven.{present_count}
 use Rattle.orc_values.specs.WovenLaws.{present_count-le}
 use Rattle.orc_columns.specs.declared.fault.ColumnFault.TheVariants.{NoMemory}
 use Rattle.orc_columns.specs.declared.value_reader.ValueReader.TheVariants as reader
-use Rattle.orc_columns.specs.Batches.{NumbersGoOn, NumbersBreak, BitsGoOn, BitsBreak, ValuesGoOn, ValuesBreak}
+use Rattle.orc_columns.specs.Batches.{BitsGoOn, BitsBreak, ValuesGoOn, ValuesBreak}
 use Rattle.orc_columns.proofs.DenseRows.{spread_rows, bits_go, bits_break}
 use Rattle.orc_columns.proofs.Drawing.{Draws-ok, Draws-fault, Draws-refused}
 use Rattle.orc_columns.proofs.value_reader.bit_rows.Goals as goal

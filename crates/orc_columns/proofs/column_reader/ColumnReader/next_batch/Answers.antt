@@ -1,4 +1,4 @@
-use Rattle.std.proofs.Common.{◌≡◌, None, refl, sym, ◌∙◌, ap}
+use Rattle.std.proofs.Common.{◌≡◌, None, ◌∙◌, ap}
 use Rattle.orc_columns.specs.Midway.{ReaderOf}
 use Rattle.orc_columns.proofs.ReadingRows.{sound_after, reader_draws, not_some}
 use Rattle.orc_columns.proofs.column_reader.ColumnReader.next_batch.Goals as goal

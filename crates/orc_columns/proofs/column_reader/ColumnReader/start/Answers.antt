@@ -1,11 +1,10 @@
-use Rattle.std.proofs.Common.{◌≡◌, ℕ, List, Option, Some, None, refl, sym, ◌∙◌, ap, subst, Ok, Err}
+use Rattle.std.proofs.Common.{Some, sym, ◌∙◌, ap}
 use Rattle.std.proofs.lemmas.Result.{err_from_is_err_and}
 use Rattle.orc_columns.specs.declared.fault.ColumnFault.TheVariants.{BadEncoding}
 use Rattle.orc_columns.specs.declared.spelling.Spelling.{Spelling}
 use Rattle.orc_columns.specs.Batches.{ValuesBegin, ValuesFailAtStart}
 use Rattle.orc_columns.specs.Column.{encoding}
-use Rattle.orc_columns.specs.Decoders.{PresentOf}
-use Rattle.orc_columns.specs.Reader.{whole_reader, Begins, FailsAtStart}
+use Rattle.orc_columns.specs.Reader.{Begins, FailsAtStart}
 use Rattle.orc_columns.proofs.Beginnings.{reader_begins, start_fails}
 use Rattle.orc_columns.proofs.Drawing.{Draws-refused, Draws-ok, Draws-fault}
 use Rattle.orc_columns.proofs.ReadingRows.{not_some}

@@ -1,0 +1,76 @@
+//! The lengths of texts.
+ghost use Rattle.std.specs.Prelude.{◌≡◌, ◌+◌, ◌<◌, ◌≤◌, false, length, map, sum, take, unsigned_abs, None, All, Contains, MatchOption, OnOk, IfOk, IfErr, IsTrue, IsFalse, ℤ};
+ghost use Rattle.std.specs.Int.{IsNonNegative};
+ghost use Rattle.outside.specs.Reading.{placed};
+ghost use Rattle.orc_columns.specs.declared.plan.ColumnPlan.{ColumnPlan};
+ghost use Rattle.orc_columns.specs.Batches.{HoldsNoRead, LengthsGoOn, LengthsRefuse, TotalOf, AreRefused};
+ghost use Rattle.orc_columns.specs.Column.{IsNegative};
+ghost use Rattle.orc_columns.specs.Draws.{StreamsDiffer, Draws};
+
+use crate::fault::ColumnFault;
+use crate::fills::fill_lengths;
+use crate::integers::Integers;
+use outside::Feed;
+
+/// Gives the next lengths of texts, and answers how many bytes they are together, where there is room for so many.
+///
+/// A fault of a run of LENGTH comes before a negative length, and that before lengths that are too many bytes.
+pub(crate) fn next_lengths<F: Feed>(
+    lengths: &mut Integers,
+    feed: &mut F,
+    entries: &mut [i64],
+    count: usize,
+    room: u64,
+) -> Result<u64, ColumnFault>
+    requires { count ≤ length entries.old }
+    ensures len { length entries.new ≡ length entries.old }
+    ensures stream { lengths.new.stream ≡ lengths.old.stream }
+    ensures version { lengths.new.version ≡ lengths.old.version }
+    ensures signed { lengths.new.signed ≡ lengths.old.signed }
+    ensures whole { lengths.old.fault ≡ None → OnOk result (lengths.new.fault ≡ None) }
+    ensures total { IfOk result (TotalOf (take count entries.new) room) }
+    ensures no_read { IfErr result HoldsNoRead }
+    ensures draws { (plan : ColumnPlan) → StreamsDiffer plan → lengths.old.stream ≡ plan.length → lengths.old.signed ≡ false → lengths.old.fault ≡ None →
+        Draws F.rest F.fed F.fault_count plan feed.old feed.new
+        (LengthsGoOn lengths.old lengths.new) (LengthsRefuse lengths.old count room) (placed (take count entries.new) result) }
+{
+    fill_lengths(lengths, feed, entries, count)?;
+    let (given, _) = entries.split_at(count);
+    total_of(given, room)
+}
+
+/// How many bytes these lengths are together.
+///
+/// A negative length comes before lengths that are more bytes than there is room for.
+pub(crate) fn total_of(lengths: &[i64], room: u64) -> Result<u64, ColumnFault>
+    ensures total { IfOk result (TotalOf lengths.now room) }
+    ensures refused { IfErr result (AreRefused lengths.now room) }
+{
+    if has_negative(lengths) {
+        return Err(ColumnFault::NegativeLength);
+    }
+    match room_after(lengths, room) {
+        Some(left) => Ok(room - left),
+        None => Err(ColumnFault::LengthsPastData),
+    }
+}
+
+/// Whether a length is negative.
+fn has_negative(lengths: &[i64]) -> bool
+    ensures some { IsTrue result → (number : ℤ) × Contains lengths.now number × IsNegative number }
+    ensures none { IsFalse result → All IsNonNegative lengths.now }
+{
+    lengths.iter().any(|length| *length < 0)
+}
+
+/// How much room is left behind texts of these lengths, or None where there is too little.
+fn room_after(lengths: &[i64], room: u64) -> Option<u64>
+    requires { All IsNonNegative lengths.now }
+    ensures { MatchOption result (room < sum (map unsigned_abs lengths.now)) (λ left. left + sum (map unsigned_abs lengths.now) ≡ room) }
+{
+    let mut left = room;
+    for length in lengths {
+        left = left.checked_sub(*length as u64)?;
+    }
+    Some(left)
+}
