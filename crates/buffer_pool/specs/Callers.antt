@@ -1,10 +1,19 @@
--- For those who make several calls in a row: what a seat that knows the words knows of one of them after each call.
-use Rattle.std.specs.Prelude.{◌≡◌, ◌≢◌, ℕ, ◌<◌, List, length, Option, None, Some, IfSome, IsSomeAnd, option_map, slice_index, slice_set}
-use Rattle.std.proofs.Common.{sym, ◌∙◌, subst}
+-- For those who make several calls in a row: what a seat that knows the words knows of one of them after each call, and
+-- which tokens are still the seat's.
+use Rattle.std.specs.Prelude.{◌≡◌, ◌≢◌, ℕ, ◌<◌, List, length, Option, None, Some, IfSome, IsSomeAnd, option_map, slice_index, slice_index_or, slice_set}
+use Rattle.std.proofs.Common.{sym, ◌∙◌, ap, subst}
+use Rattle.std.proofs.lemmas.Option.{none-some}
 use Rattle.std.proofs.lemmas.List.{length-set, get_or-set_same, get_or-set_other}
 use Rattle.pool_rule.specs.declared.view.Event.{Event}
 use Rattle.pool_rule.specs.declared.view.View.{View}
-use Rattle.buffer_pool.specs.Calls.{Steps}
+use Rattle.pool_model.specs.declared.step.Step.{Step}
+use Rattle.pool_rule.specs.declared.geometry.WordName.{WordName}
+use Rattle.pool_rule.specs.Seats.{granted_at}
+use Rattle.buffer_pool.specs.declared.pool.Pool.{Pool}
+use Rattle.buffer_pool.specs.declared.seat.PoolSeat.{PoolSeat}
+use Rattle.buffer_pool.specs.declared.token.Grant.{Grant}
+use Rattle.buffer_pool.specs.Calls.{KeepsAll, KeepsOthers, Looks, Steps}
+use Rattle.buffer_pool.specs.Pools.{IsGrantOf, block_of, view}
 
 -- these are the words, and that one of them has that value
 abbrev pub HasWord : ℕ → ℕ → Option (List ℕ) → Type 0
@@ -46,4 +55,29 @@ knows_other word found left other value event v w apart s k =
     let P : Option (List ℕ) → Type 0 = λ o. HasWord other value o in
     record { is = subst P (sym s.known) (other_in word left other value apart v.known k.is) }
 
-pub ruleset callers = (finds_known, knows_left, knows_other)
+-- ---- tokens
+
+-- a token is still the seat's where the view has the same block at its place
+pub stays : {W : Type 0} (pool : Pool W) (old new : PoolSeat W) (grant : Grant) → IsGrantOf pool old grant → granted_at (view new) (block_of grant).place ≡ granted_at (view old) (block_of grant).place → IsGrantOf pool new grant
+stays pool old new grant token same = record { block = token.block; granted = same ∙ token.granted }
+
+-- after a call that keeps all
+pub stays_all : {W : Type 0} (pool : Pool W) (old new : PoolSeat W) (grant : Grant) → IsGrantOf pool old grant → KeepsAll (view old) (view new) → IsGrantOf pool new grant
+stays_all pool old new grant token keeps =
+    stays pool old new grant token (ap (λ (l : List (Option ℕ)). slice_index_or l (block_of grant).place None) keeps.granted)
+
+-- after a look
+pub stays_looked : {W : Type 0} (pool : Pool W) (old new : PoolSeat W) (grant : Grant) (word : WordName) → IsGrantOf pool old grant → Looks word (view old) (view new) → IsGrantOf pool new grant
+stays_looked pool old new grant word token keeps =
+    stays pool old new grant token (ap (λ (l : List (Option ℕ)). slice_index_or l (block_of grant).place None) keeps.granted)
+
+-- after a grant or a return at another place
+pub stays_others : {W : Type 0} (pool : Pool W) (old new : PoolSeat W) (grant : Grant) (place : ℕ) (step : Step) → IsGrantOf pool old grant → KeepsOthers place step (view old) (view new) → (block_of grant).place ≢ place → IsGrantOf pool new grant
+stays_others pool old new grant place step token keeps apart = stays pool old new grant token (keeps.others (block_of grant).place apart)
+
+-- a block that a call found free of the seat's own begins where none of the seat's tokens does
+pub apart_from : {W : Type 0} (pool : Pool W) (seat : PoolSeat W) (grant : Grant) (place : ℕ) → IsGrantOf pool seat grant → granted_at (view seat) place ≡ None → (block_of grant).place ≢ place
+apart_from pool seat grant place token free same =
+    none-some (block_of grant).order (sym free ∙ (ap (granted_at (view seat)) (sym same) ∙ token.granted))
+
+pub ruleset callers = (finds_known, knows_left, knows_other, stays_all, stays_looked, stays_others, apart_from)

@@ -24,6 +24,7 @@ struct Worked {
 }
 
 /// Grants a block, where the seat knows that the arena's word is the expected one.
+#[tactic(auto, using(crate::specs::Callers::callers))]
 fn granted<W: World>(
     pool: &Pool<W>,
     seat: &mut PoolSeat<W>,

@@ -65,6 +65,7 @@ impl<W: World> Words<W> {
         index as usize
     }
 
+    /// Loads a word. What the seat learns by it is the caller's pick.
     fn load<C: Change>(&self, seat: &mut Sitting, word: WordName) -> u64
         requires seat { IsSeatAt (table_of self.now) (geometry_of self.now) seat.old }
         requires word { IsWord (geometry_of self.now) word }
@@ -73,11 +74,12 @@ impl<W: World> Words<W> {
         ensures told { Told (view seat.old) (index_of (geometry_of self.now) word) result }
         ensures view { view seat.new ≡ looked (geometry_of self.now) word result (view seat.old) }
     {
+        // laws do nothing: each hands the proof a fact
         pool_model::laws::every_run_is_lawful();
         self.table.shared.load::<Loads<C>>(seat, self.index(word))
     }
 
-    /// Loads a word.
+    /// Loads a word. That of a header's key tells the key to a pin of the header, or to a buffer that the seat moves.
     pub fn look(&self, seat: &mut Sitting, word: WordName) -> u64
         requires seat { IsSeatAt (table_of self.now) (geometry_of self.now) seat.old }
         requires word { IsWord (geometry_of self.now) word }
@@ -88,6 +90,7 @@ impl<W: World> Words<W> {
         self.load::<Brand>(seat, word)
     }
 
+    /// The exchange that takes a block. What it does to the view is the caller's pick.
     fn exchange<C: Change>(&self, seat: &mut Sitting, block: Block, seen: u64) -> u64
         requires seat { IsSeatAt (table_of self.now) (geometry_of self.now) seat.old }
         requires block { IsBlock 6 (places_of (geometry_of self.now)) block }
@@ -132,6 +135,7 @@ impl<W: World> Words<W> {
         }
     }
 
+    /// The fetch_and that gives a block back. What it does to the view is the caller's pick.
     fn mask_out<C: Change>(&self, seat: &mut Sitting, block: Block) -> u64
         requires seat { IsSeatAt (table_of self.now) (geometry_of self.now) seat.old }
         requires block { IsBlock 6 (places_of (geometry_of self.now)) block }
@@ -161,6 +165,7 @@ impl<W: World> Words<W> {
         self.mask_out::<Brand>(seat, block)
     }
 
+    /// Parts a seat. How many numbers go is known to the proof alone, so the caller picks it.
     fn part<C: Count>(&self, seat: &mut Sitting, numbers: u32) -> Sitting
         requires seat { IsSeatAt (table_of self.now) (geometry_of self.now) seat.old }
         requires numbers { (0 < numbers) × (numbers < length (view seat.old).numbers) }

@@ -1,5 +1,5 @@
 ghost use Rattle.std.specs.Prelude.{◌≡◌};
-ghost use Rattle.pool_rule.specs.Layout.{IsGeometry, word_count};
+ghost use Rattle.pool_rule.specs.Layout.{AreSeats, IsGeometry, word_count};
 
 use crate::{Geometry, PoolRule, Setup, View};
 use atomic_table::Table;
@@ -16,4 +16,5 @@ pub struct Words<W: World> {
     pub ghost all_words: { table.shared.table_id.words ≡ word_count geometry },
     pub ghost told: { table.shared.key.geometry ≡ geometry },
     pub ghost sized: { IsGeometry geometry },
+    pub ghost few: { AreSeats table.shared.key.seats },
 }

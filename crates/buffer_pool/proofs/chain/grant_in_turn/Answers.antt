@@ -1,13 +1,11 @@
-use Rattle.std.proofs.Common.{◌≡◌, ◌≢◌, ℕ, ◌/◌, List, [], ◌∷◌, ◌++◌, get_or, refl, subst, ap, ◌∙◌, bit_and, bit_or, arith}
-use Rattle.std.specs.Prelude.{Option, None, Some}
+use Rattle.std.proofs.Common.{◌≡◌, ℕ, ◌/◌, List, [], ◌∷◌, ◌++◌, refl, subst, ap, ◌∙◌, bit_and, bit_or, arith}
 use Rattle.pool_rule.specs.declared.view.Event.{Event}
 use Rattle.buffer_pool.specs.Chain.{IsWorkedTrail}
 use Rattle.std.specs.Int.{w64, bit_not}
 use Rattle.pool_model.specs.declared.block.Block.{Block}
 use Rattle.pool_rule.specs.declared.view.View.{View}
-use Rattle.pool_rule.specs.Seats.{granted_at}
 use Rattle.pool_rule.specs.Words.{mask_of}
-use Rattle.buffer_pool.specs.Callers.{KnowsWord, finds_known, knows_left}
+use Rattle.buffer_pool.specs.Callers.{KnowsWord, finds_known, knows_left, stays_all, stays_looked, stays_others}
 use Rattle.buffer_pool.specs.Calls.{Steps, load_of, exchange_of, miss_of, mask_out_of}
 use Rattle.buffer_pool.specs.Pools.{view, block_of, block_at}
 use Rattle.buffer_pool.proofs.chain.grant_in_turn.Goals as goal
@@ -95,30 +93,20 @@ returns-clause-trail g c =
     c.look-out.result c.look-back.result c.ungrant.ensures.step.0 c.ungrant-2.ensures.step.0 (block_of c.granted-first.result) (block_of c.granted-second.result) c.lost-saw.result c.granted-first.ensures.block c.granted-second.ensures.block c.lost-saw.ensures.saw c.requires.word
     c.granted-first.ensures.step c.lost-saw.ensures.step c.granted-second.ensures.step c.look-out.ensures.step c.ungrant.ensures.step.3 c.ungrant-2.ensures.step.3 c.look-back.ensures.step
 
--- the first block is still there after three calls
-first_stays : (v1 v2 v3 v4 : View) (b : Block) → b ≡ block_at 0 2 → granted_at v1 b.place ≡ Some b.order → v2.granted ≡ v1.granted → ((p : ℕ) → p ≢ 4 → granted_at v3 p ≡ granted_at v2 p) → v4.granted ≡ v3.granted → granted_at v4 b.place ≡ Some b.order
-first_stays v1 v2 v3 v4 b is has all others looked =
-    let at = λ (l : List (Option ℕ)). get_or l b.place None in
-    let place : b.place ≡ 0 = ap (λ (x : Block). x.place) is in
-    ap at looked ∙ (others b.place (λ z. omega (arith, z, place)) ∙ (ap at all ∙ has))
-
-second_stays : (v3 v4 v5 : View) (b c : Block) → b ≡ block_at 0 2 → c ≡ block_at 4 0 → granted_at v3 c.place ≡ Some c.order → v4.granted ≡ v3.granted → ((p : ℕ) → p ≢ b.place → granted_at v5 p ≡ granted_at v4 p) → granted_at v5 c.place ≡ Some c.order
-second_stays v3 v4 v5 b c is_b is_c has looked others =
-    let at = λ (l : List (Option ℕ)). get_or l c.place None in
-    let first : b.place ≡ 0 = ap (λ (x : Block). x.place) is_b in
-    let second : c.place ≡ 4 = ap (λ (x : Block). x.place) is_c in
-    others c.place (λ z. omega (arith, z, first, second)) ∙ (ap at looked ∙ has)
-
 pub ungrant-requires-clause-token : goal.ungrant-requires-clause-token
 ungrant-requires-clause-token g c =
-    record {
-      block = c.granted-first.ensures.token.block;
-      granted = first_stays (view c.granted-first.new.seat) (view c.lost-saw.new.seat) (view c.granted-second.new.seat) (view c.look-out.new.seat) (block_of c.granted-first.result) c.granted-first.ensures.block c.granted-first.ensures.token.granted c.lost-saw.ensures.all.granted c.granted-second.ensures.others.others c.look-out.ensures.keeps.granted;
-    }
+    let pool = c.args.pool.now in
+    let grant = c.granted-first.result in
+    let place : (block_of grant).place ≡ 0 = ap (λ (x : Block). x.place) c.granted-first.ensures.block in
+    let after_lost = stays_all pool c.granted-first.new.seat c.lost-saw.new.seat grant c.granted-first.ensures.token c.lost-saw.ensures.all in
+    let after_second = stays_others pool c.lost-saw.new.seat c.granted-second.new.seat grant 4 _ after_lost c.granted-second.ensures.others (λ e. omega (arith, e, place)) in
+    stays_looked pool c.granted-second.new.seat c.look-out.new.seat grant _ after_second c.look-out.ensures.keeps
 
 pub ungrant-requires-2-clause-token : goal.ungrant-requires-2-clause-token
 ungrant-requires-2-clause-token g c =
-    record {
-      block = c.granted-second.ensures.token.block;
-      granted = second_stays (view c.granted-second.new.seat) (view c.look-out.new.seat) (view c.ungrant.new.seat) (block_of c.granted-first.result) (block_of c.granted-second.result) c.granted-first.ensures.block c.granted-second.ensures.block c.granted-second.ensures.token.granted c.look-out.ensures.keeps.granted c.ungrant.ensures.others.others;
-    }
+    let pool = c.args.pool.now in
+    let grant = c.granted-second.result in
+    let first : (block_of c.granted-first.result).place ≡ 0 = ap (λ (x : Block). x.place) c.granted-first.ensures.block in
+    let second : (block_of grant).place ≡ 4 = ap (λ (x : Block). x.place) c.granted-second.ensures.block in
+    let after_look = stays_looked pool c.granted-second.new.seat c.look-out.new.seat grant _ c.granted-second.ensures.token c.look-out.ensures.keeps in
+    stays_others pool c.look-out.new.seat c.ungrant.new.seat grant (block_of c.granted-first.result).place _ after_look c.ungrant.ensures.others (λ e. omega (arith, e, first, second))

@@ -1,5 +1,6 @@
 use Rattle.std.proofs.Common.{◌≡◌, ℕ, List, [], ◌∷◌, length, refl, sym, ap, ◌∙◌, subst, arith}
 use Rattle.pool_rule.specs.declared.view.View.{View}
+use Rattle.pool_rule.specs.Layout.{AreSeats}
 use Rattle.pool_rule.specs.Rule.{IsKept, first_words, first_view}
 use Rattle.pool_rule.specs.Words.{IsLive}
 use Rattle.pool_rule.proofs.Opening.{opens, length-first}
@@ -21,6 +22,7 @@ invariant_of-words g c =
       all_words = c.in_ok-table.ensures.0 ∙ (ap length same ∙ length-first setup.geometry);
       told = ap (λ s. s.geometry) c.in_ok-table.ensures.5;
       sized = c.requires.geometry;
+      few = subst AreSeats (ap (λ s. s.seats) (sym c.in_ok-table.ensures.5)) c.requires.seats;
     }
 
 pub returns : goal.returns
