@@ -11,7 +11,7 @@ use Rattle.pool_rule.specs.declared.geometry.Geometry.{Geometry}
 use Rattle.pool_rule.specs.declared.geometry.Setup.{Setup}
 use Rattle.pool_rule.specs.declared.geometry.WordName.{WordName}
 use Rattle.pool_rule.specs.declared.geometry.WordName.TheVariants.{Arena, State, KeyOf, Touches, Last, Clock}
-use Rattle.pool_rule.specs.declared.view.Deed.TheVariants.{Loaded}
+use Rattle.pool_rule.specs.declared.view.Access.TheVariants.{Loaded}
 use Rattle.pool_rule.specs.declared.view.Event.TheVariants.{Parted, Joined}
 use Rattle.pool_rule.specs.declared.view.Hold.{Hold}
 use Rattle.pool_rule.specs.declared.view.Hold.TheVariants.{Free, Bid, Pinned}

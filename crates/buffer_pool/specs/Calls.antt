@@ -6,7 +6,7 @@ use Rattle.pool_model.specs.declared.step.Step.{Step}
 use Rattle.pool_model.specs.declared.step.Step.TheVariants.{Grant, Ungrant}
 use Rattle.pool_rule.specs.declared.geometry.WordName.{WordName}
 use Rattle.pool_rule.specs.declared.geometry.WordName.TheVariants.{Arena, State, KeyOf, Touches, Last, Clock}
-use Rattle.pool_rule.specs.declared.view.Deed.TheVariants.{Loaded, Exchanged, Failed, Changed}
+use Rattle.pool_rule.specs.declared.view.Access.TheVariants.{Loaded, Exchanged, Failed, Changed}
 use Rattle.pool_rule.specs.declared.view.Event.{Event}
 use Rattle.pool_rule.specs.declared.view.Event.TheVariants.{Stepped}
 use Rattle.pool_rule.specs.declared.view.View.{View}

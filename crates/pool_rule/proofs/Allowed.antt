@@ -17,7 +17,7 @@ use Rattle.pool_model.specs.Laws.{EveryRunIsLawful}
 use Rattle.pool_rule.specs.declared.geometry.Setup.{Setup}
 use Rattle.pool_rule.specs.declared.geometry.WordName.{WordName}
 use Rattle.pool_rule.specs.declared.geometry.WordName.TheVariants.{Arena, State as StateWord, KeyOf, Touches, Last, Clock}
-use Rattle.pool_rule.specs.declared.view.Deed.TheVariants.{Loaded, Exchanged, Failed, Changed}
+use Rattle.pool_rule.specs.declared.view.Access.TheVariants.{Loaded, Exchanged, Failed, Changed}
 use Rattle.pool_rule.specs.declared.view.View.{View}
 use Rattle.pool_rule.specs.Layout.{IsWord, index_of, places_of}
 use Rattle.pool_rule.specs.Plays.{loads, exchanges, masks}

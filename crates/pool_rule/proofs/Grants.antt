@@ -19,7 +19,7 @@ use Rattle.pool_model.specs.Content.{Files}
 use Rattle.pool_model.specs.Pool.{grant_at, block_of, grant_covers, owners}
 use Rattle.pool_model.specs.Step.{IsFree, Needs, after}
 use Rattle.pool_rule.specs.declared.geometry.Setup.{Setup}
-use Rattle.pool_rule.specs.declared.view.Deed.TheVariants.{Exchanged, Changed}
+use Rattle.pool_rule.specs.declared.view.Access.TheVariants.{Exchanged, Changed}
 use Rattle.pool_rule.specs.declared.view.View.{View}
 use Rattle.pool_rule.specs.Layout.{places_of, header_word, cell_word}
 use Rattle.pool_rule.specs.Rule.{IsStory, IsKept, seat_of, steps_of, setting_of, StandsFor, AreBits, view_at, own_grant}

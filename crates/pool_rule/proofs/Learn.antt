@@ -20,7 +20,7 @@ use Rattle.buffer_word.specs.KeyWord.{IsKey, key_word}
 use Rattle.pool_rule.specs.declared.geometry.Setup.{Setup}
 use Rattle.pool_rule.specs.declared.view.Claim.{Claim}
 use Rattle.pool_rule.specs.declared.view.Claim.TheVariants.{Unclaimed, Fresh, Gone, Carried}
-use Rattle.pool_rule.specs.declared.view.Deed.TheVariants.{Loaded}
+use Rattle.pool_rule.specs.declared.view.Access.TheVariants.{Loaded}
 use Rattle.pool_rule.specs.declared.view.Hold.{Hold}
 use Rattle.pool_rule.specs.declared.view.Hold.TheVariants.{Free, Bid, Pinned}
 use Rattle.pool_rule.specs.declared.view.Mark.{Mark}

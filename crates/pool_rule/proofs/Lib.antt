@@ -9,4 +9,4 @@ pub mod Grants
 pub mod Seated
 pub mod Opening
 pub mod Allowed
-pub mod Sitting
+pub mod TableSeats

@@ -9,7 +9,7 @@ use Rattle.pool_model.specs.declared.step.Step.{Step}
 use Rattle.pool_model.specs.Content.{Files}
 use Rattle.pool_model.specs.Pool.{buffer_at}
 use Rattle.pool_rule.specs.declared.geometry.Setup.{Setup}
-use Rattle.pool_rule.specs.declared.view.Deed.{Deed}
+use Rattle.pool_rule.specs.declared.view.Access.{Access}
 use Rattle.pool_rule.specs.declared.view.Mark.{Mark}
 use Rattle.pool_rule.specs.declared.view.View.{View}
 use Rattle.pool_rule.specs.Headers.{hold_count}
@@ -59,15 +59,15 @@ module _ (files : Option Files) (setup : Setup) (words : List ℕ) (views : List
       told_of (Some ws) i e = ap (λ xs. get_or xs i 0) (sym e)
 
   -- a step that changes nothing but trail and known words
-  pub notes : (i : ℕ) (deed : Deed) → IsKept files setup {S = Unit {0}} (record { words = set words i (get_or words i 0); homes = []; views = set views id (noted i (get_or words i 0) (get_or words i 0) deed v) })
+  pub notes : (i : ℕ) (access : Access) → IsKept files setup {S = Unit {0}} (record { words = set words i (get_or words i 0); homes = []; views = set views id (noted i (get_or words i 0) (get_or words i 0) access v) })
   unfolding noted
-  notes i deed = (
+  notes i access = (
     log ++ [],
     (
       pool,
-      quiet i (get_or words i 0) (noted i (get_or words i 0) (get_or words i 0) deed v) refl
+      quiet i (get_or words i 0) (noted i (get_or words i 0) (get_or words i 0) access v) refl
           (record { numbers = refl; geometry = refl; marks = refl; granted = refl }) refl refl
-          (λ header inside. header_seen (noted i (get_or words i 0) (get_or words i 0) deed v) header inside refl)
+          (λ header inside. header_seen (noted i (get_or words i 0) (get_or words i 0) access v) header inside refl)
           (λ place. refl),
     ),
   )

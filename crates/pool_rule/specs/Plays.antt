@@ -2,7 +2,7 @@
 use Rattle.std.specs.Prelude.{◌≡◌, ◌≢◌, ℕ, bit_and}
 use Rattle.atomic_table.specs.Table.{Me}
 use Rattle.atomic_table.specs.Table as table
-use Rattle.pool_rule.specs.declared.view.Deed.TheVariants.{Loaded, Exchanged, Failed, Changed}
+use Rattle.pool_rule.specs.declared.view.Access.TheVariants.{Loaded, Exchanged, Failed, Changed}
 use Rattle.pool_rule.specs.declared.view.View.{View}
 use Rattle.pool_rule.specs.Seats.{noted, Told}
 

@@ -5,7 +5,7 @@ use Rattle.pool_model.specs.declared.step.Step.{Step}
 use Rattle.pool_rule.specs.declared.geometry.Geometry.{Geometry}
 use Rattle.pool_rule.specs.declared.view.Claim.{Claim}
 use Rattle.pool_rule.specs.declared.view.Claim.TheVariants.{Unclaimed, Fresh, Gone, Carried}
-use Rattle.pool_rule.specs.declared.view.Deed.{Deed}
+use Rattle.pool_rule.specs.declared.view.Access.{Access}
 use Rattle.pool_rule.specs.declared.view.Event.{Event}
 use Rattle.pool_rule.specs.declared.view.Event.TheVariants.{Stepped, Parted, Joined}
 use Rattle.pool_rule.specs.declared.view.Hold.{Hold}
@@ -49,9 +49,9 @@ with_event e v = record v { trail = v.trail ++ e ∷ [] }
 
 -- The seat stepped on a word, which was the old one and is the new one: that is in its trail, and if it knows the
 -- words it knows this one as it is now.
-unfoldable pub noted : ℕ → ℕ → ℕ → Deed → View → View
-noted word old new deed v =
-    record v { trail = v.trail ++ Stepped word old new deed ∷ []; known = option_map (λ ws. slice_set ws word new) v.known }
+unfoldable pub noted : ℕ → ℕ → ℕ → Access → View → View
+noted word old new access v =
+    record v { trail = v.trail ++ Stepped word old new access ∷ []; known = option_map (λ ws. slice_set ws word new) v.known }
 
 -- the words, if they are known, say this of the word
 abbrev pub Told : View → ℕ → ℕ → Type 0

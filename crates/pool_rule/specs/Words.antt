@@ -8,17 +8,17 @@ use Rattle.pool_model.specs.declared.step.Step.TheVariants.{Grant, Ungrant}
 use Rattle.pool_rule.specs.declared.geometry.WordName.{WordName}
 use Rattle.pool_rule.specs.declared.geometry.WordName.TheVariants.{Arena, State, KeyOf, Touches, Last, Clock}
 use Rattle.pool_rule.specs.declared.geometry.Geometry.{Geometry}
-use Rattle.pool_rule.specs.declared.view.Deed.TheVariants.{Loaded, Exchanged, Failed, Changed}
+use Rattle.pool_rule.specs.declared.view.Access.TheVariants.{Loaded, Exchanged, Failed, Changed}
 use Rattle.pool_rule.specs.declared.view.View.{View}
 use Rattle.pool_rule.specs.Layout.{headers_of, places_of, index_of}
 use Rattle.pool_rule.specs.Seats.{noted, with_step, with_granted, with_key}
 
 -- a seat of a pool's table
-abbrev pub Sitting : Type 0
-Sitting = Seat (Unit {0}) View
+abbrev pub TableSeat : Type 0
+TableSeat = Seat (Unit {0}) View
 
 -- what the seat knows and has
-abbrev pub view : Sitting → View
+abbrev pub view : TableSeat → View
 view seat = seat.me.0
 
 -- the view of a seat that isn't spent: it has numbers, and a place for each header and each minimum block
@@ -29,13 +29,13 @@ pub record IsLive (g : Geometry) (v : View) : Type 0 where
   pub granted : length v.granted ≡ places_of g
 
 -- the seat is of that table of those sizes, isn't spent and holds no slot
-pub record IsSeatAt (table : TableId) (g : Geometry) (seat : Sitting) : Type 0 where
+pub record IsSeatAt (table : TableId) (g : Geometry) (seat : TableSeat) : Type 0 where
   pub table_is : seat.table_id ≡ table
   pub no_slot : seat.me.1 ≡ []
   pub live : IsLive g (view seat)
 
 -- the same seat, still of the table
-pub record IsStill (table : TableId) (g : Geometry) (old new : Sitting) : Type 0 where
+pub record IsStill (table : TableId) (g : Geometry) (old new : TableSeat) : Type 0 where
   pub seat : IsSeatAt table g new
   pub id_is : new.id ≡ old.id
 

@@ -19,5 +19,5 @@ mod words;
 pub use geometry::{Geometry, Setup, WordName};
 pub use lost::LostGrant;
 pub use rule::PoolRule;
-pub use view::{Claim, Deed, Event, Hold, Mark, Sitting, View};
+pub use view::{Access, Claim, Event, Hold, Mark, TableSeat, View};
 pub use words::Words;

@@ -12,7 +12,7 @@ ghost use Rattle.pool_rule.specs.Words.{view, IsSeatAt, IsStill, learnt, looked,
 
 use crate::laid::first_words;
 use crate::plays::{Change, Count, Exchanges, Joins, Loads, Masks, Parts};
-use crate::{Geometry, LostGrant, Setup, Sitting, WordName, Words};
+use crate::{Geometry, LostGrant, Setup, TableSeat, WordName, Words};
 use atomic_table::Table;
 use buddy_arena::mask;
 use outside::World;
@@ -25,7 +25,7 @@ impl<W: World> Words<W> {
     /// seat has all numbers.
     ///
     /// `AllocError` comes for want of memory alone.
-    pub fn open(alloc: Global, setup: Setup) -> Result<(Words<W>, Sitting), AllocError>
+    pub fn open(alloc: Global, setup: Setup) -> Result<(Words<W>, TableSeat), AllocError>
         requires geometry { IsGeometry setup.geometry }
         requires seats { AreSeats setup.seats }
         ensures { IfOk result (λ r. (geometry_of r.0 ≡ setup.geometry) × IsSeatAt (table_of r.0) (geometry_of r.0) r.1 × (r.1.id ≡ 0) × (view r.1 ≡ first_view setup)) }
@@ -66,7 +66,7 @@ impl<W: World> Words<W> {
     }
 
     /// Loads a word. What the seat learns by it is the caller's pick.
-    fn load<C: Change>(&self, seat: &mut Sitting, word: WordName) -> u64
+    fn load<C: Change>(&self, seat: &mut TableSeat, word: WordName) -> u64
         requires seat { IsSeatAt (table_of self.now) (geometry_of self.now) seat.old }
         requires word { IsWord (geometry_of self.now) word }
         requires change { C.change ≡ learnt word }
@@ -80,7 +80,7 @@ impl<W: World> Words<W> {
     }
 
     /// Loads a word. That of a header's key tells the key to a pin of the header, or to a buffer that the seat moves.
-    pub fn look(&self, seat: &mut Sitting, word: WordName) -> u64
+    pub fn look(&self, seat: &mut TableSeat, word: WordName) -> u64
         requires seat { IsSeatAt (table_of self.now) (geometry_of self.now) seat.old }
         requires word { IsWord (geometry_of self.now) word }
         ensures seat { IsStill (table_of self.now) (geometry_of self.now) seat.old seat.new }
@@ -91,7 +91,7 @@ impl<W: World> Words<W> {
     }
 
     /// The exchange that takes a block. What it does to the view is the caller's pick.
-    fn exchange<C: Change>(&self, seat: &mut Sitting, block: Block, seen: u64) -> u64
+    fn exchange<C: Change>(&self, seat: &mut TableSeat, block: Block, seen: u64) -> u64
         requires seat { IsSeatAt (table_of self.now) (geometry_of self.now) seat.old }
         requires block { IsBlock 6 (places_of (geometry_of self.now)) block }
         requires clear { IsClear seen (block.place % 64) block.order }
@@ -118,7 +118,7 @@ impl<W: World> Words<W> {
     ///
     /// The block is clear in the expected word. `LostGrant` comes only where the exchange found another word, and then
     /// the pool is as it was.
-    pub fn take_block(&self, seat: &mut Sitting, block: Block, seen: u64) -> Result<(), LostGrant>
+    pub fn take_block(&self, seat: &mut TableSeat, block: Block, seen: u64) -> Result<(), LostGrant>
         requires seat { IsSeatAt (table_of self.now) (geometry_of self.now) seat.old }
         requires block { IsBlock 6 (places_of (geometry_of self.now)) block }
         requires clear { IsClear seen (block.place % 64) block.order }
@@ -136,7 +136,7 @@ impl<W: World> Words<W> {
     }
 
     /// The fetch_and that gives a block back. What it does to the view is the caller's pick.
-    fn mask_out<C: Change>(&self, seat: &mut Sitting, block: Block) -> u64
+    fn mask_out<C: Change>(&self, seat: &mut TableSeat, block: Block) -> u64
         requires seat { IsSeatAt (table_of self.now) (geometry_of self.now) seat.old }
         requires block { IsBlock 6 (places_of (geometry_of self.now)) block }
         requires granted { granted_at (view seat.old) block.place ≡ Some block.order }
@@ -154,7 +154,7 @@ impl<W: World> Words<W> {
     }
 
     /// Gives a granted block back: one fetch_and clears its bits. Gives the word that it found.
-    pub fn give_block(&self, seat: &mut Sitting, block: Block) -> u64
+    pub fn give_block(&self, seat: &mut TableSeat, block: Block) -> u64
         requires seat { IsSeatAt (table_of self.now) (geometry_of self.now) seat.old }
         requires block { IsBlock 6 (places_of (geometry_of self.now)) block }
         requires granted { granted_at (view seat.old) block.place ≡ Some block.order }
@@ -166,7 +166,7 @@ impl<W: World> Words<W> {
     }
 
     /// Parts a seat. How many numbers go is known to the proof alone, so the caller picks it.
-    fn part<C: Count>(&self, seat: &mut Sitting, numbers: u32) -> Sitting
+    fn part<C: Count>(&self, seat: &mut TableSeat, numbers: u32) -> TableSeat
         requires seat { IsSeatAt (table_of self.now) (geometry_of self.now) seat.old }
         requires numbers { (0 < numbers) × (numbers < length (view seat.old).numbers) }
         requires count { C.count ≡ numbers }
@@ -180,7 +180,7 @@ impl<W: World> Words<W> {
     }
 
     /// Parts a seat: the new one has its last numbers, so many of them, and nothing else.
-    pub fn split(&self, seat: &mut Sitting, numbers: u32) -> Sitting
+    pub fn split(&self, seat: &mut TableSeat, numbers: u32) -> TableSeat
         requires seat { IsSeatAt (table_of self.now) (geometry_of self.now) seat.old }
         requires numbers { (0 < numbers) × (numbers < length (view seat.old).numbers) }
         ensures seat { IsStill (table_of self.now) (geometry_of self.now) seat.old seat.new }
@@ -192,7 +192,7 @@ impl<W: World> Words<W> {
     }
 
     /// Joins a seat that has nothing of any header and no block to another, which gets its numbers back.
-    pub fn join(&self, seat: &mut Sitting, other: Sitting)
+    pub fn join(&self, seat: &mut TableSeat, other: TableSeat)
         requires seat { IsSeatAt (table_of self.now) (geometry_of self.now) seat.old }
         requires other { IsSeatAt (table_of self.now) (geometry_of self.now) other }
         requires nothing { HasNothing (view other) }

@@ -53,7 +53,7 @@ pub struct Mark {
 
 /// How a seat came to the old value of a word.
 #[derive(Drop)]
-pub enum Deed {
+pub enum Access {
     /// The word was read, and is as it was.
     Loaded,
     /// An exchange found the word that was expected, and put another in its place.
@@ -72,7 +72,7 @@ pub enum Event {
         word: u64,
         old: u64,
         new: u64,
-        deed: Deed,
+        access: Access,
     },
     /// The seat gave away its last numbers, so many of them.
     Parted {
@@ -101,4 +101,4 @@ pub struct View {
 }
 
 /// A seat of a pool's table. It has no bytes, and a view of what it knows and has.
-pub type Sitting = Seat<(), View>;
+pub type TableSeat = Seat<(), View>;

@@ -6,7 +6,7 @@ use prog.Atomic.{either}
 use Rattle.atomic_table.specs.Table.{Allows, step}
 use Rattle.pool_model.specs.Block.{IsBlock}
 use Rattle.pool_rule.specs.declared.geometry.Geometry.{Geometry}
-use Rattle.pool_rule.specs.declared.view.Deed.TheVariants.{Exchanged, Failed}
+use Rattle.pool_rule.specs.declared.view.Access.TheVariants.{Exchanged, Failed}
 use Rattle.pool_rule.specs.declared.view.View.{View}
 use Rattle.pool_rule.specs.Layout.{places_of}
 use Rattle.pool_rule.specs.Plays.{exchanges}
@@ -15,7 +15,7 @@ use Rattle.pool_rule.specs.Seats.{noted}
 use Rattle.pool_rule.specs.Words.{taking}
 use Rattle.pool_rule.proofs.Allowed.{take_allowed}
 use Rattle.pool_rule.proofs.Blocks.{place_below}
-use Rattle.pool_rule.proofs.Sitting.{still, noted_live, taking_live}
+use Rattle.pool_rule.proofs.TableSeats.{still, noted_live, taking_live}
 use Rattle.pool_rule.proofs.words.Words.exchange.Goals as goal
 
 pub compare_exchange-requires : goal.compare_exchange-requires

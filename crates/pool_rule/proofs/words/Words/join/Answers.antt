@@ -1,7 +1,7 @@
 use Rattle.std.proofs.Common.{arith}
 use Rattle.pool_rule.specs.Seats.{joined}
 use Rattle.pool_rule.proofs.Allowed.{join_allowed}
-use Rattle.pool_rule.proofs.Sitting.{still, joined_live}
+use Rattle.pool_rule.proofs.TableSeats.{still, joined_live}
 use Rattle.pool_rule.proofs.words.Words.join.Goals as goal
 
 pub join_seat-requires : goal.join_seat-requires

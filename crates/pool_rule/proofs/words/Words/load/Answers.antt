@@ -2,7 +2,7 @@ use Rattle.std.proofs.Common.{◌≡◌, ℕ, sym, ap, ◌∙◌, subst}
 use mathlib.Core.Option.{none}
 use Rattle.atomic_table.specs.Table.{Allows, step}
 use Rattle.pool_rule.specs.declared.geometry.Geometry.{Geometry}
-use Rattle.pool_rule.specs.declared.view.Deed.TheVariants.{Loaded}
+use Rattle.pool_rule.specs.declared.view.Access.TheVariants.{Loaded}
 use Rattle.pool_rule.specs.declared.view.View.{View}
 use Rattle.pool_rule.specs.Layout.{IsWord, index_of}
 use Rattle.pool_rule.specs.Plays.{loads}
@@ -10,7 +10,7 @@ use Rattle.pool_rule.specs.Rule.{IsKept}
 use Rattle.pool_rule.specs.Seats.{noted}
 use Rattle.pool_rule.specs.Words.{learnt}
 use Rattle.pool_rule.proofs.Allowed.{load_allowed}
-use Rattle.pool_rule.proofs.Sitting.{still, noted_live, learnt_live}
+use Rattle.pool_rule.proofs.TableSeats.{still, noted_live, learnt_live}
 use Rattle.pool_rule.proofs.words.Words.load.Goals as goal
 
 pub load-requires : goal.load-requires

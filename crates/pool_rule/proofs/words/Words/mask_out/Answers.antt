@@ -4,7 +4,7 @@ use mathlib.Core.Option.{none}
 use Rattle.atomic_table.specs.Table.{Allows, step}
 use Rattle.pool_model.specs.Block.{IsBlock}
 use Rattle.pool_rule.specs.declared.geometry.Geometry.{Geometry}
-use Rattle.pool_rule.specs.declared.view.Deed.TheVariants.{Changed}
+use Rattle.pool_rule.specs.declared.view.Access.TheVariants.{Changed}
 use Rattle.pool_rule.specs.declared.view.View.{View}
 use Rattle.pool_rule.specs.Layout.{places_of}
 use Rattle.pool_rule.specs.Plays.{masks}
@@ -13,7 +13,7 @@ use Rattle.pool_rule.specs.Seats.{noted}
 use Rattle.pool_rule.specs.Words.{giving}
 use Rattle.pool_rule.proofs.Allowed.{give_allowed}
 use Rattle.pool_rule.proofs.Blocks.{place_below}
-use Rattle.pool_rule.proofs.Sitting.{still, noted_live, giving_live}
+use Rattle.pool_rule.proofs.TableSeats.{still, noted_live, giving_live}
 use Rattle.pool_rule.proofs.words.Words.mask_out.Goals as goal
 
 pub fetch_and-requires : goal.fetch_and-requires

@@ -4,7 +4,7 @@ use Rattle.pool_rule.specs.Layout.{AreSeats}
 use Rattle.pool_rule.specs.Rule.{IsKept, first_words, first_view}
 use Rattle.pool_rule.specs.Words.{IsLive}
 use Rattle.pool_rule.proofs.Opening.{opens, length-first}
-use Rattle.pool_rule.proofs.Sitting.{first_live}
+use Rattle.pool_rule.proofs.TableSeats.{first_live}
 use Rattle.pool_rule.proofs.words.Words.open.Goals as goal
 
 pub of_words-requires : goal.of_words-requires

@@ -5,7 +5,7 @@ use Rattle.pool_rule.specs.Rule.{IsKept}
 use Rattle.pool_rule.specs.Seats.{parted, part_of}
 use Rattle.pool_rule.specs.Words.{IsLive}
 use Rattle.pool_rule.proofs.Allowed.{split_allowed}
-use Rattle.pool_rule.proofs.Sitting.{still, parted_live, part_live}
+use Rattle.pool_rule.proofs.TableSeats.{still, parted_live, part_live}
 use Rattle.pool_rule.proofs.words.Words.part.Goals as goal
 
 pub split_seat-requires : goal.split_seat-requires

@@ -8,15 +8,15 @@ use Rattle.pool_rule.specs.declared.geometry.Geometry.{Geometry}
 use Rattle.pool_rule.specs.declared.geometry.Setup.{Setup}
 use Rattle.pool_rule.specs.declared.geometry.WordName.{WordName}
 use Rattle.pool_rule.specs.declared.geometry.WordName.TheVariants.{Arena, State, KeyOf, Touches, Last, Clock}
-use Rattle.pool_rule.specs.declared.view.Deed.{Deed}
+use Rattle.pool_rule.specs.declared.view.Access.{Access}
 use Rattle.pool_rule.specs.declared.view.View.{View}
 use Rattle.pool_rule.specs.Layout.{headers_of, places_of}
 use Rattle.pool_rule.specs.Rule.{first_view}
 use Rattle.pool_rule.specs.Seats.{mark_at, clear_mark, noted, with_step, with_granted, with_key, mark_with_key, key_of, parted, part_of, joined}
-use Rattle.pool_rule.specs.Words.{Sitting, IsLive, IsSeatAt, IsStill, learnt, taking, giving}
+use Rattle.pool_rule.specs.Words.{TableSeat, IsLive, IsSeatAt, IsStill, learnt, taking, giving}
 use Rattle.pool_rule.proofs.Opening.{length-numbers}
 
-pub still : (table : TableId) (g : Geometry) (old new : Sitting) (w : View) → IsSeatAt table g old → new.table_id ≡ old.table_id → new.id ≡ old.id → new.me ≡ (w, old.me.1) → IsLive g w → IsStill table g old new
+pub still : (table : TableId) (g : Geometry) (old new : TableSeat) (w : View) → IsSeatAt table g old → new.table_id ≡ old.table_id → new.id ≡ old.id → new.me ≡ (w, old.me.1) → IsLive g w → IsStill table g old new
 still table g old new w h same_table same_id me live =
     let P : View → Type 0 = λ v. IsLive g v in
     record {
@@ -25,9 +25,9 @@ still table g old new w h same_table same_id me live =
     }
 
 module _ (g : Geometry) (v : View) (h : IsLive g v) where
-  pub noted_live : (word old new : ℕ) (deed : Deed) → IsLive g (noted word old new deed v)
+  pub noted_live : (word old new : ℕ) (access : Access) → IsLive g (noted word old new access v)
   unfolding noted
-  noted_live word old new deed = record { numbers = h.numbers; geometry = h.geometry; marks = h.marks; granted = h.granted }
+  noted_live word old new access = record { numbers = h.numbers; geometry = h.geometry; marks = h.marks; granted = h.granted }
 
   key_live : (header found : ℕ) → IsLive g (with_key header found v)
   unfolding with_key
