@@ -38,7 +38,7 @@ pub breaks_from_start : {V : Type 0} (Form : List ℕ → List V → Type 0) (re
 breaks_from_start Form read which asked before fault (b, is, breaks) = (b, is, subst (λ (n : ℕ). Breaks Form read before n b) (zero-add asked) (breaks before [] (Between-start Form before)))
 
 -- an element of a list of which all are so is so
-of_all : {X : Type 0} (P : X → Type 0) (xs : List X) (x : X) → All P xs → Contains xs x → P x
+pub of_all : {X : Type 0} (P : X → Type 0) (xs : List X) (x : X) → All P xs → Contains xs x → P x
 of_all P xs x all (k, below, is) = subst P is (all k x below)
 
 module _ {F : Type 0} (rest : F → ℕ → Option (List ℕ)) (fed : F → List Taken → F → Type 0) (count : F → ℕ) (plan : ColumnPlan)

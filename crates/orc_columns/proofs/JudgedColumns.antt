@@ -1,11 +1,10 @@
 -- How a whole column is judged: which rows have a value, and then the values.
-use Rattle.std.proofs.Common.{◌≡◌, ℕ, Bool, List, [], ◌∷◌, ◌++◌, length, Option, Some, None, Ok, Err, refl, sym, ◌∙◌, ap, subst, arith, zero-add}
+use Rattle.std.proofs.Common.{◌≡◌, ℕ, List, [], ◌++◌, length, Option, Some, None, Ok, Err, refl, sym, ◌∙◌, ap, subst, arith, zero-add}
 use Rattle.std.specs.Prelude.{Result}
 use Rattle.std.proofs.lemmas.List.{length-map}
 use Rattle.outside.specs.declared.run_fault.RunFault.{RunFault}
 use Rattle.outside.specs.Feed.{Taken, Lost, taken_of}
-use Rattle.outside.specs.Runs.{Between, Spells}
-use Rattle.outside.proofs.Runs.{Between-start}
+use Rattle.outside.specs.Runs.{Spells}
 use Rattle.orc_rle.specs.BitRun.{BitRun}
 use Rattle.orc_values.specs.declared.value.Value.{Value}
 use Rattle.orc_values.specs.Woven.{woven}
@@ -14,11 +13,9 @@ use Rattle.orc_columns.specs.declared.fault.ColumnFault.{ColumnFault}
 use Rattle.orc_columns.specs.declared.fault.ColumnFault.TheVariants.{BadEncoding, Run, NegativeLength, LengthsPastData, IndexOutOfDictionary, Read, NoMemory}
 use Rattle.orc_columns.specs.declared.fault.StreamName.TheVariants as name
 use Rattle.orc_columns.specs.declared.plan.ColumnPlan.{ColumnPlan}
-use Rattle.orc_columns.specs.declared.present.PresentState.{PresentState}
-use Rattle.orc_columns.specs.declared.present.PresentState.TheVariants.{Unread, Empty, Flags}
 use Rattle.orc_columns.specs.declared.spelling.Spelling.{Spelling}
 use Rattle.orc_columns.specs.declared.spelling.Spelling.TheVariants.{Bits, Integers, Texts, Dictionary}
-use Rattle.orc_columns.specs.Column.{Streams, ArePresent, PresentBreaks, AreValues, ValuesFail, bits, integers, texts, entries, places, index, Fails, encoding, nulls, values, row_value, rows_of}
+use Rattle.orc_columns.specs.Column.{Streams, PresentBreaks, AreValues, ValuesFail, bits, integers, texts, entries, places, index, Fails, encoding, nulls, values, row_value, rows_of}
 use Rattle.orc_columns.specs.Decoders.{PresentOf, new_present}
 use Rattle.orc_columns.specs.Draws.{StreamsDiffer, Tells, Draws, Decided, of_run, OnlyPresent}
 use Rattle.orc_columns.specs.FirstFault.{found_by, Judges, IsUndecided, Sized, StandingRows, NoStandingRows, JudgedValues, JudgedColumn}
@@ -28,15 +25,7 @@ use Rattle.orc_columns.specs.Present.{PresentBetween}
 use Rattle.orc_columns.specs.Spelling.{spelling_of}
 use Rattle.orc_columns.proofs.Drawing.{Draws-ok, Draws-fault, Draws-then, present_draws}
 use Rattle.orc_columns.proofs.Judged.{said_so}
-
--- flags between two batches are those that PRESENT has
-pub present_spelled : (state : PresentState) (start : List ℕ) (flags held : List Bool) (rest : List ℕ) → PresentBetween state start flags held rest → ArePresent start flags
-present_spelled Unread [] flags held rest at = rw at.0 refl
-present_spelled Unread (byte ∷ bytes) flags held rest at = let whole : Between BitRun (byte ∷ bytes) [] [] (byte ∷ bytes) = Between-start BitRun (byte ∷ bytes) in (byte ∷ bytes, ([], rw at.0 whole))
-present_spelled Empty [] flags held rest at = at.2
-present_spelled Empty (byte ∷ bytes) flags held rest at = absurd (let no : byte ∷ bytes ≡ [] = at.0 in cc)
-present_spelled Flags [] flags held rest at = absurd (at.0 refl)
-present_spelled Flags (byte ∷ bytes) flags held rest at = (rest, (held, at.1))
+use Rattle.orc_columns.proofs.ReadingRows.{given_are_present}
 
 -- before the first row
 present_begins : (stream : Option ℕ) (start : List ℕ) → (stream ≡ None → start ≡ []) → PresentBetween (new_present stream).state start [] [] start
@@ -75,7 +64,7 @@ module _ {F : Type 0} (rest : F → ℕ → Option (List ℕ)) (fed : F → List
   standing_judged p first last rows standing r =
       let drawn = present_draws rest fed count plan lost nothing joined differ (new_present plan.present) p first last rows (Ok r.flags) refl r.fills in
       Draws-ok rest fed count plan lost nothing joined first last _ _ _ _ r.flags standing
-      (λ b a tells goes. (goes.0, (r.flags, r.set.0, present_spelled p.state b.present r.flags p.held a.present (goes.1 b.present [] (begins first b tells)), r.set.1))) drawn
+      (λ b a tells goes. (goes.0, (r.flags, r.set.0, given_are_present p.state b.present r.flags p.held a.present (goes.1 b.present [] (begins first b tells)), r.set.1))) drawn
 
   pub standing_broken : (p : PresentOf) (first last : F) (rows : ℕ) (fault : RunFault) → ReadsFlags rest fed count (new_present plan.present) p first last rows (Err fault)
       → Draws {Y = ℕ} rest fed count plan first last (StandingRows rows) (NoStandingRows rows) (Err (of_run name.Present fault))

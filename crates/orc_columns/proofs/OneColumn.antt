@@ -1,5 +1,5 @@
 -- A column has one list of values, or one fault.
-use Rattle.std.proofs.Common.{◌≡◌, ℕ, ◌+◌, ◌<◌, ◌≤◌, Bool, true, false, List, [], ◌∷◌, ◌++◌, length, map, Some, None, ℤ, pos, zero, suc, slice_index_or, append-nil, refl, sym, ◌∙◌, ap, subst, arith, length-append, All, Contains, sum}
+use Rattle.std.proofs.Common.{◌≡◌, ℕ, ◌+◌, ◌<◌, ◌≤◌, Bool, true, false, List, [], ◌∷◌, ◌++◌, length, map, Some, None, ℤ, pos, zero, suc, slice_index_or, append-nil, refl, sym, ◌∙◌, ap, subst, arith, length-append, Contains, sum}
 use Rattle.std.specs.Int.{w64, cast_unsigned}
 use Rattle.std.specs.Prelude.{◌-◌, replicate}
 use Rattle.std.proofs.lemmas.List.{length-map, map-append, replicate-append-replicate}
@@ -28,6 +28,7 @@ use Rattle.orc_columns.specs.declared.spelling.Version.TheVariants.{One, Two}
 use Rattle.orc_columns.specs.Column.{Streams, ArePresent, PresentBreaks, AreNumbers, AreLengths, LengthsFail, broken, negative, past, AreValues, ValuesFail, bits, integers, texts, entries, places, index, places_of, entry_text, IsNegative, IsColumn, encoding, nulls, values, row_value, rows_of}
 use Rattle.orc_columns.specs.Laws.{NeverBoth, IsOneList, IsOneFault}
 use Rattle.orc_columns.specs.Spelling.{IntRun, int_run}
+use Rattle.orc_columns.proofs.Judged.{of_all}
 use Rattle.orc_columns.proofs.OneSpelling.{spelled_front, spelled_once, broken_once}
 
 int_run_reads : (version : Version) (signed : Bool) → IsReaderOf (IntRun version signed) (int_run version signed)
@@ -153,9 +154,6 @@ lengths_fault_once version stream limit n fault other (past lengths counted spel
 lengths_fault_once version stream limit n fault other (past lengths counted spelled above) (past _ _ _ _) = refl
 
 -- ---- values that aren't null
-
-of_all : {X : Type 0} (P : X → Type 0) (xs : List X) (x : X) → All P xs → Contains xs x → P x
-of_all P xs x all (k, below, is) = subst P is (all k x below)
 
 places_len : (lengths : List ℕ) (numbers : List ℤ) (s : Streams) (standing : List Value) → standing ≡ map (entry_text (slices 0 lengths s.dictionary)) (places_of numbers) → length standing ≡ length numbers
 places_len lengths numbers s standing is = ap length is ∙ length-map (places_of numbers) (entry_text (slices 0 lengths s.dictionary)) ∙ length-map numbers (cast_unsigned w64)

@@ -7,7 +7,7 @@ use Rattle.orc_columns.specs.declared.value_reader.ValueReader.TheVariants as re
 use Rattle.orc_columns.specs.Column.{Streams, AreValues, entry_text, places_of}
 use Rattle.orc_columns.specs.Laws.{GivesTheColumn}
 use Rattle.orc_columns.specs.Midway.{ValuesBetween, spelling_in}
-use Rattle.orc_columns.proofs.JudgedColumns.{present_spelled}
+use Rattle.orc_columns.proofs.ReadingRows.{given_are_present}
 
 given_are_values : (size : ℕ) (start : Streams) (given : List Value) (v : ValueReader) (rest : Streams) → ValuesBetween size start given v rest → AreValues (spelling_in v) size start given
 given_are_values size start given (reader.Bits b) rest (bits, at, is) = (bits, rest.body, (b.held, at), is)
@@ -22,7 +22,7 @@ gives_the_column r start given rest at = record {
   flags = at.flags;
   values = at.values;
   spelled = at.spelled;
-  present = present_spelled r.present.state start.present at.flags r.present.held rest.present at.present;
+  present = given_are_present r.present.state start.present at.flags r.present.held rest.present at.present;
   enough = at.enough;
   standing = given_are_values r.plan.dictionary_size start at.values r.values rest at.standing;
   rows_are = at.rows_are;
