@@ -1,4 +1,5 @@
 mod Beginnings
+mod Cases
 mod Decoders
 mod DenseRows
 mod Drawing

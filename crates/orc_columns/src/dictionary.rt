@@ -17,7 +17,7 @@ ghost use Rattle.orc_columns.specs.Reader.{HasLengths};
 
 use crate::entry_lengths::push_all_lengths;
 use crate::fault::ColumnFault;
-use crate::fills::fill_numbers;
+use crate::fills::{BATCH, fill_numbers};
 use crate::integers::Integers;
 use crate::lengths::total_of;
 use crate::plan::ColumnPlan;
@@ -26,9 +26,6 @@ use crate::text_bytes::read_bytes;
 use orc_values::{ColumnValues, Texts, count_present};
 use outside::{Feed, NoMemory};
 use std::alloc::Global;
-
-/// The greatest number of rows of a batch.
-const BATCH: usize = 1024;
 
 /// Texts of a dictionary, each spelled by the number of its entry in DATA.
 #[derive(Drop)]

@@ -6,12 +6,9 @@ ghost use Rattle.orc_columns.specs.Batches.{HoldsNoRead, LengthsGoOn, LengthsBre
 ghost use Rattle.orc_columns.specs.Draws.{StreamsDiffer, Draws};
 
 use crate::fault::ColumnFault;
-use crate::fills::fill_lengths;
+use crate::fills::{BATCH, fill_lengths};
 use crate::integers::Integers;
 use outside::Feed;
-
-/// How many lengths are read at once.
-const BATCH: usize = 1024;
 
 /// Adds so many lengths, a batch at a time: memory is asked for those alone that the stream spells.
 pub(crate) fn push_all_lengths<F: Feed>(

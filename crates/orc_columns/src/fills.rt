@@ -11,6 +11,9 @@ use crate::integers::Integers;
 use crate::present::Present;
 use outside::Feed;
 
+/// The greatest number of rows of a batch.
+pub(crate) const BATCH: usize = 1024;
+
 /// Gives the flags of the next rows.
 pub(crate) fn fill_flags<F: Feed>(
     present: &mut Present,

@@ -11,15 +11,13 @@ ghost use Rattle.orc_columns.specs.Draws.{StreamsDiffer, Draws};
 ghost use Rattle.orc_columns.specs.Midway.{spelling_in};
 
 use crate::fault::ColumnFault;
+use crate::fills::BATCH;
 use crate::integers::Integers;
 use crate::lengths::next_lengths;
 use crate::text_bytes::read_bytes;
 use orc_values::{ColumnValues, Texts, count_present, lay_ends};
 use outside::Feed;
 use std::alloc::Global;
-
-/// The greatest number of rows of a batch.
-const BATCH: usize = 1024;
 
 /// Texts, each spelled by its length in LENGTH and its bytes in DATA.
 #[derive(Drop)]

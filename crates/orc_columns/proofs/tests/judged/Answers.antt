@@ -1,0 +1,10 @@
+use Rattle.orc_columns.proofs.Cases.{numbers_differ, untold_sized}
+use Rattle.orc_columns.proofs.tests.judged.Goals as goal
+
+pub first_fault-requires-clause-differ : goal.first_fault-requires-clause-differ
+first_fault-requires-clause-differ c =
+    let e = c.plan_of.ensures in
+    numbers_differ c.plan_of.result e.present e.body e.length e.dictionary
+
+pub first_fault-requires-clause-lens : goal.first_fault-requires-clause-lens
+first_fault-requires-clause-lens c = λ s tells. untold_sized c.in_ok-feed.feed c.plan_of.result s c.plan_of.ensures.body tells
