@@ -4,7 +4,7 @@ use Rattle.std.proofs.lemmas.List.{take_all, drop_all, length-take}
 use Rattle.std.specs.Prelude.{codes}
 use Rattle.outside.specs.Told.{Extended}
 use Rattle.llapd.specs.declared.line.Outcome.{Outcome}
-use Rattle.llapd.specs.declared.line.Outcome.TheVariants.{Sum, NoFile, Compressed, BrokenTail, NoColumn, WrongKind, BrokenFooter, NotBuilt, ReadFault, Overflow}
+use Rattle.llapd.specs.declared.line.Outcome.TheVariants.{Sum, NoFile, Compressed, BrokenTail, NoColumn, WrongKind, BrokenFooter, BrokenColumn, ReadFault, Overflow}
 use Rattle.llapd.specs.declared.status.Status.{Status}
 use Rattle.llapd.specs.declared.status.Status.TheVariants.{Done, SomeFailed, Usage, BadPlan, WriteFault, PlanFault, NoMemory}
 use Rattle.llapd.specs.Words.{AreGoodWords, usage_text}
@@ -63,7 +63,7 @@ status_is_of_text (BrokenTail fault) = tt
 status_is_of_text (NoColumn column) = tt
 status_is_of_text (WrongKind column) = tt
 status_is_of_text (BrokenFooter stripe fault) = tt
-status_is_of_text NotBuilt = tt
+status_is_of_text (BrokenColumn stripe column fault) = tt
 status_is_of_text ReadFault = tt
 status_is_of_text Overflow = tt
 

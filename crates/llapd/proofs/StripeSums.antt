@@ -9,15 +9,16 @@ use Rattle.orc_tail.specs.declared.stripe.Stripe.{Stripe}
 use Rattle.llapd.specs.declared.line.Outcome.{Outcome}
 use Rattle.llapd.specs.declared.stop.Stop.{Stop}
 use Rattle.llapd.specs.declared.stop.Stop.TheVariants as stop
-use Rattle.llapd.specs.declared.sum.StripeTotal.{StripeTotal}
+use Rattle.llapd.specs.declared.summed_column.SummedColumn.{SummedColumn}
+use Rattle.llapd.specs.declared.column_sum.StripeTotal.{StripeTotal}
 use Rattle.llapd.specs.declared.wide_sum.WideSum.{WideSum}
 use Rattle.llapd.specs.Total.{total_of, IsTotal}
-use Rattle.llapd.specs.StripeColumn.{stripe_column, HasValues, FailsBy}
-use Rattle.llapd.specs.Stripes.{HaveValues, FirstFails, broken, summed}
-use Rattle.llapd.specs.Stripes.HaveValues.{none}
+use Rattle.llapd.specs.StripeColumn.{stripe_column, HasNumbers, FailsBy}
+use Rattle.llapd.specs.Stripes.{HaveNumbers, FirstFails, broken, summed}
+use Rattle.llapd.specs.Stripes.HaveNumbers.{none}
 use Rattle.llapd.specs.Sum.{wide_total, IsWideSum, SumOfStripes}
 use Rattle.llapd.specs.Meaning.{column_in}
-use Rattle.llapd.specs.Scan.{IsTotalOf, Totals, Sees}
+use Rattle.llapd.specs.Scan.{HasTotal, Totals, Sees}
 use Rattle.llapd.proofs.Stripes.{have_more, fails_behind}
 
 -- ---- totals
@@ -29,7 +30,7 @@ fold_from a (y ∷ ys) = omega (arith, ints, fold_from (a +ℤ y) ys, fold_from 
 total_of-joined : (xs ys : List ℤ) → total_of (xs ++ ys) ≡ total_of xs +ℤ total_of ys
 total_of-joined xs ys = fold-append ◌+ℤ◌ (pos 0) xs ys ∙ fold_from (total_of xs) ys
 
--- ---- whether there is a value
+-- ---- whether there is a number
 
 no_values : (xs : List ℤ) → length xs ≡ 0 → xs ≡ []
 no_values [] len = refl
@@ -64,9 +65,9 @@ none_joined false xs ys count len is e =
 
 -- ---- the stripes so far
 
-pub sum_starts : (file : List ℕ) (column : ℕ) (sum : WideSum) → wide_total sum ≡ pos 0 → sum.is_some ≡ false → SumOfStripes file column [] sum
+pub sum_starts : (file : List ℕ) (column : SummedColumn) (sum : WideSum) → wide_total sum ≡ pos 0 → sum.is_some ≡ false → SumOfStripes file column [] sum
 sum_starts file column sum zero empty = record {
-  values = [];
+  numbers = [];
   have = none;
   sum_is = record { total_is = zero; some = λ e. absurd (not_true (sym empty ∙ e)); none = λ e. refl };
 }
@@ -74,20 +75,20 @@ sum_starts file column sum zero empty = record {
 before : (stripes : List Stripe) (i : ℕ) → i < length stripes → 0 + length (take i stripes) ≡ i
 before stripes i lt = omega (arith, length-take-le i stripes (omega arith))
 
-pub sum_steps : (file : List ℕ) (column index i : ℕ) (stripes : List Stripe) (d : Stripe) (sum more : WideSum) (one : StripeTotal) → i < length stripes → index ≡ i
-    → IsTotalOf (stripe_column file index (get_or stripes i d) column) one → wide_total more ≡ wide_total sum +ℤ one.total → more.is_some ≡ (sum.is_some || nat_lt 0 one.count)
+pub sum_steps : (file : List ℕ) (column : SummedColumn) (index i : ℕ) (stripes : List Stripe) (d : Stripe) (sum more : WideSum) (one : StripeTotal) → i < length stripes → index ≡ i
+    → HasTotal (stripe_column file index (get_or stripes i d) column) one → wide_total more ≡ wide_total sum +ℤ one.total → more.is_some ≡ (sum.is_some || nat_lt 0 one.count)
     → SumOfStripes file column (take i stripes) sum → SumOfStripes file column (take (i + 1) stripes) more
 sum_steps file column index i stripes d sum more one lt at total total_is some_is so_far =
     let number : index ≡ 0 + length (take i stripes) = at ∙ sym (before stripes i lt) in
-    let has = subst (λ (n : ℕ). HasValues (stripe_column file n (get_or stripes i d) column) total.values) number total.have in
-    let have = have_more file column 0 (take i stripes) (get_or stripes i d) total.values so_far.have has in
+    let has = subst (λ (n : ℕ). HasNumbers (stripe_column file n (get_or stripes i d) column) total.numbers) number total.have in
+    let have = have_more file column 0 (take i stripes) (get_or stripes i d) total.numbers so_far.have has in
     record {
-      values = so_far.values ++ total.values;
-      have = subst (λ (xs : List Stripe). HaveValues file column 0 xs (so_far.values ++ total.values)) (sym (take_more stripes i d lt)) have;
+      numbers = so_far.numbers ++ total.numbers;
+      have = subst (λ (xs : List Stripe). HaveNumbers file column 0 xs (so_far.numbers ++ total.numbers)) (sym (take_more stripes i d lt)) have;
       sum_is = record {
-        total_is = total_is ∙ ap (λ (z : ℤ). z +ℤ one.total) so_far.sum_is.total_is ∙ ap (λ (z : ℤ). total_of so_far.values +ℤ z) total.total_is ∙ sym (total_of-joined so_far.values total.values);
-        some = λ e. some_joined sum.is_some so_far.values total.values one.count total.count_is so_far.sum_is.some (sym some_is ∙ e);
-        none = λ e. none_joined sum.is_some so_far.values total.values one.count total.count_is so_far.sum_is.none (sym some_is ∙ e);
+        total_is = total_is ∙ ap (λ (z : ℤ). z +ℤ one.total) so_far.sum_is.total_is ∙ ap (λ (z : ℤ). total_of so_far.numbers +ℤ z) total.total_is.total_is ∙ sym (total_of-joined so_far.numbers total.numbers);
+        some = λ e. some_joined sum.is_some so_far.numbers total.numbers one.count total.total_is.count_is so_far.sum_is.some (sym some_is ∙ e);
+        none = λ e. none_joined sum.is_some so_far.numbers total.numbers one.count total.total_is.count_is so_far.sum_is.none (sym some_is ∙ e);
       };
     }
 
@@ -95,7 +96,7 @@ parted : (stripes : List Stripe) (i : ℕ) (d : Stripe) → i < length stripes �
 parted stripes i d lt = ap (λ (xs : List Stripe). take i stripes ++ xs) (sym (drop_more stripes i d lt)) ∙ take-append-drop i stripes
 
 -- a stripe wasn't summed
-pub stripe_stops : (file : List ℕ) (column index i : ℕ) (stripes : List Stripe) (d : Stripe) (sum : WideSum) (s : Stop) → i < length stripes → index ≡ i
+pub stripe_stops : (file : List ℕ) (column : SummedColumn) (index i : ℕ) (stripes : List Stripe) (d : Stripe) (sum : WideSum) (s : Stop) → i < length stripes → index ≡ i
     → SumOfStripes file column (take i stripes) sum → Totals (stripe_column file index (get_or stripes i d) column) (Err s) → Sees (column_in file stripes column) (Err s)
 stripe_stops file column index i stripes d sum (stop.Fails failure) lt at so_far fails =
     let number : index ≡ 0 + length (take i stripes) = at ∙ sym (before stripes i lt) in
@@ -106,7 +107,7 @@ stripe_stops file column index i stripes d sum (stop.Read failed) lt at so_far f
 stripe_stops file column index i stripes d sum stop.NoMemory lt at so_far fails = tt
 
 -- all stripes were summed
-pub sum_ends : (file : List ℕ) (column i : ℕ) (stripes : List Stripe) (sum : WideSum) (outcome : Outcome) → length stripes ≤ i → SumOfStripes file column (take i stripes) sum
-    → ((values : List ℤ) → IsWideSum values sum → IsTotal values outcome) → Sees (column_in file stripes column) (Ok outcome)
+pub sum_ends : (file : List ℕ) (column : SummedColumn) (i : ℕ) (stripes : List Stripe) (sum : WideSum) (outcome : Outcome) → length stripes ≤ i → SumOfStripes file column (take i stripes) sum
+    → ((numbers : List ℤ) → IsWideSum numbers sum → IsTotal numbers outcome) → Sees (column_in file stripes column) (Ok outcome)
 sum_ends file column i stripes sum outcome all so_far means =
-    summed (subst (λ (xs : List Stripe). HaveValues file column 0 xs so_far.values) (take_all i stripes all) so_far.have) (means so_far.values so_far.sum_is)
+    summed (subst (λ (xs : List Stripe). HaveNumbers file column 0 xs so_far.numbers) (take_all i stripes all) so_far.have) (means so_far.numbers so_far.sum_is)

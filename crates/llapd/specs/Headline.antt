@@ -4,7 +4,7 @@ use Rattle.outside.specs.Cause.{Rose}
 use Rattle.outside.specs.Files.{Files}
 use Rattle.outside.specs.Told.{Extended}
 use Rattle.llapd.specs.declared.line.Outcome.{Outcome}
-use Rattle.llapd.specs.declared.line.Outcome.TheVariants.{Sum, NoFile, Compressed, BrokenTail, NoColumn, WrongKind, BrokenFooter, NotBuilt, ReadFault, Overflow}
+use Rattle.llapd.specs.declared.line.Outcome.TheVariants.{Sum, NoFile, Compressed, BrokenTail, NoColumn, WrongKind, BrokenFooter, BrokenColumn, ReadFault, Overflow}
 use Rattle.llapd.specs.Faults.{IsWorded}
 use Rattle.llapd.specs.declared.status.Status.{Status}
 use Rattle.llapd.specs.declared.status.Status.TheVariants.{Done, SomeFailed, Usage, BadPlan, WriteFault, PlanFault, NoMemory}
@@ -38,7 +38,7 @@ status_of (BrokenTail fault) = SomeFailed
 status_of (NoColumn column) = SomeFailed
 status_of (WrongKind column) = SomeFailed
 status_of (BrokenFooter stripe fault) = SomeFailed
-status_of NotBuilt = SomeFailed
+status_of (BrokenColumn stripe column fault) = SomeFailed
 status_of ReadFault = SomeFailed
 status_of Overflow = SomeFailed
 

@@ -3,6 +3,7 @@ pub mod Headline
 pub mod Laws
 pub mod Line
 pub mod Meaning
+pub mod Numbers
 pub mod PlanBytes
 pub mod Scan
 pub mod StatusCode

@@ -3,11 +3,11 @@
 use Rattle.std.specs.Prelude.{ℕ, List, [], ◌∷◌, ◌++◌, Some, None, codes}
 use Rattle.std.specs.Fmt.{decimal, signed_decimal}
 use Rattle.llapd.specs.declared.line.Outcome.{Outcome}
-use Rattle.llapd.specs.declared.line.Outcome.TheVariants.{Sum, NoFile, Compressed, BrokenTail, NoColumn, WrongKind, BrokenFooter, NotBuilt, ReadFault, Overflow}
-use Rattle.llapd.specs.Faults.{fault_words}
+use Rattle.llapd.specs.declared.line.Outcome.TheVariants.{Sum, NoFile, Compressed, BrokenTail, NoColumn, WrongKind, BrokenFooter, BrokenColumn, ReadFault, Overflow}
+use Rattle.llapd.specs.Faults.{fault_words, column_words}
 
 -- What became of it, in words. A sum is its decimal numeral, with a minus where it is below zero. Stripes are counted
--- from 0.
+-- from 0, and a column goes by its type's number.
 abbrev pub outcome_text : Outcome → List ℕ
 outcome_text (Sum (Some total)) = codes "sum " ++ signed_decimal total
 outcome_text (Sum None) = codes "sum null"
@@ -17,7 +17,8 @@ outcome_text (BrokenTail fault) = codes "failed broken tail " ++ fault_words fau
 outcome_text (NoColumn column) = codes "failed no column " ++ column
 outcome_text (WrongKind column) = codes "failed wrong kind " ++ column
 outcome_text (BrokenFooter stripe fault) = codes "failed broken stripe " ++ (decimal stripe ++ codes " footer " ++ fault_words fault)
-outcome_text NotBuilt = codes "failed not built"
+outcome_text (BrokenColumn stripe column fault) =
+    codes "failed broken stripe " ++ (decimal stripe ++ (codes " column " ++ (decimal column ++ 32 ∷ column_words fault)))
 outcome_text ReadFault = codes "failed read fault"
 outcome_text Overflow = codes "failed overflow"
 

@@ -10,25 +10,26 @@ use Rattle.orc_tail.specs.declared.tail.Tail.{Tail}
 use Rattle.orc_tail.specs.declared.fault.TailFault.{TailFault}
 use Rattle.orc_tail.specs.declared.fault.TailFault.TheVariants as fault
 use Rattle.orc_tail.specs.Tail.{tail, column_named}
+use Rattle.llapd.specs.declared.summed_column.SummedColumn.{SummedColumn}
 use Rattle.llapd.specs.declared.line.Outcome.{Outcome}
 use Rattle.llapd.specs.declared.line.Outcome.TheVariants.{NoFile, Compressed, BrokenTail, NoColumn, WrongKind}
 use Rattle.llapd.specs.Stripes.{IsOutcomeOf}
 
--- What a scan finds of the column that it sums: a failure, or a column of that number in those stripes of a file.
+-- What a scan finds of the column that it sums: a failure, or that column in those stripes of a file.
 pub data Found : Type 0 where
   fails : Outcome → Found
-  column_in : List ℕ → List Stripe → ℕ → Found
+  column_in : List ℕ → List Stripe → SummedColumn → Found
 
 -- the kind of a column of numbers that can be summed: SHORT, INT or LONG
 abbrev pub is_summed : ℕ → Bool
 is_summed kind = kind == 2 || kind == 3 || kind == 4
 
--- the number of a column of that name, or why it can't be summed
-abbrev pub column_number : List ℕ → Option TopColumn → Result ℕ Outcome
-column_number name None = Err (NoColumn name)
-column_number name (Some column) = if is_summed column.kind then Ok column.number else Err (WrongKind name)
+-- the column of that name, or why it can't be summed
+abbrev pub column_to_sum : List ℕ → Option TopColumn → Result SummedColumn Outcome
+column_to_sum name None = Err (NoColumn name)
+column_to_sum name (Some column) = if is_summed column.kind then Ok (record { number = column.number; kind = column.kind }) else Err (WrongKind name)
 
-abbrev pub found_column : List ℕ → List Stripe → Result ℕ Outcome → Found
+abbrev pub found_column : List ℕ → List Stripe → Result SummedColumn Outcome → Found
 found_column file stripes (Err failure) = fails failure
 found_column file stripes (Ok column) = column_in file stripes column
 
@@ -48,7 +49,7 @@ tail_failure fault.NoMemory = BrokenTail fault.NoMemory
 
 abbrev pub found_tail : List ℕ → List ℕ → Result Tail TailFault → Found
 found_tail name file (Err fault) = fails (tail_failure fault)
-found_tail name file (Ok parts) = found_column file parts.stripes (column_number name (column_named name parts.columns))
+found_tail name file (Ok parts) = found_column file parts.stripes (column_to_sum name (column_named name parts.columns))
 
 -- the column of that name in a file's bytes
 abbrev pub found_in : List ℕ → List ℕ → Found

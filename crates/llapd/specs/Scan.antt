@@ -1,19 +1,21 @@
 -- What a scan's steps answer, by what the file's bytes make of them. Source: this project's own.
-use Rattle.std.specs.Prelude.{◌≡◌, ◌≢◌, ℕ, ℤ, ◌+◌, List, length, slice_range, slice_get, Option, Some, None, Result, Ok, Err, if◌then◌else◌}
+use Rattle.std.specs.Prelude.{◌≡◌, ◌≢◌, ℕ, ℤ, ◌+◌, List, length, slice_range, slice_get, Option, Some, None, Result, Ok, Err}
 use Rattle.orc_tail.specs.declared.fault.TailFault.{TailFault}
 use Rattle.orc_tail.specs.declared.fault.TailFault.TheVariants as fault
 use Rattle.orc_tail.specs.declared.stripe_footer.StripeFooter.{StripeFooter}
 use Rattle.orc_tail.specs.declared.stream.StreamRange.{StreamRange}
-use Rattle.orc_tail.specs.StripeFooter.{first_stream, has_bytes}
+use Rattle.orc_tail.specs.StripeFooter.{first_stream}
 use Rattle.llapd.specs.declared.stop.Stop.{Stop}
 use Rattle.llapd.specs.declared.stop.Stop.TheVariants as stop
-use Rattle.llapd.specs.declared.scan.Values.{Values}
-use Rattle.llapd.specs.declared.sum.StripeTotal.{StripeTotal}
+use Rattle.llapd.specs.declared.summed_column.SummedColumn.{SummedColumn}
+use Rattle.llapd.specs.declared.stripe_sum.Span.{Span}
+use Rattle.llapd.specs.declared.stripe_sum.ColumnPlace.{ColumnPlace}
+use Rattle.llapd.specs.declared.column_sum.StripeTotal.{StripeTotal}
 use Rattle.llapd.specs.declared.line.Outcome.{Outcome}
 use Rattle.llapd.specs.declared.line.Outcome.TheVariants.{ReadFault}
 use Rattle.llapd.specs.Faults.{IsWorded}
-use Rattle.llapd.specs.Total.{total_of}
-use Rattle.llapd.specs.StripeColumn.{StripeColumn, fails, values_in, is_direct, footer_failure, HasValues, FailsBy}
+use Rattle.llapd.specs.Sum.{IsTotalOf}
+use Rattle.llapd.specs.StripeColumn.{StripeColumn, fails, spelled_in, part_of, footer_failure, HasNumbers, FailsBy}
 use Rattle.llapd.specs.Meaning.{Found, tail_failure, Means}
 
 -- what a scan makes of a fault of the file's tail
@@ -45,16 +47,17 @@ footer_stop number (fault.Read failed) = stop.Read failed
 footer_stop number fault.NoMemory = stop.NoMemory
 
 -- where a stream lies; one that isn't there is empty
-abbrev pub stream_span : Option StreamRange → ℕ × ℕ
-stream_span None = (0, 0)
-stream_span (Some stream) = (stream.at, stream.len)
+abbrev pub stream_span : Option StreamRange → Span
+stream_span None = record { at = 0; len = 0 }
+stream_span (Some stream) = record { at = stream.at; len = stream.len }
 
--- where the values of a column lie, where it is spelled DIRECT and nothing is null
-abbrev pub direct_span : ℕ → StripeFooter → Option (ℕ × ℕ)
-direct_span column footer =
-    if is_direct (slice_get footer.encodings column) then
-    (if has_bytes (first_stream 0 column footer.streams) then None else Some (stream_span (first_stream 1 column footer.streams)))
-    else None
+-- the encoding of a column of numbers, and where its streams PRESENT and DATA lie
+abbrev pub place_of : ℕ → StripeFooter → ColumnPlace
+place_of column footer = record {
+  encoding = slice_get footer.encodings column;
+  present = stream_span (first_stream 0 column footer.streams);
+  body = stream_span (first_stream 1 column footer.streams);
+}
 
 -- the answer is that a read failed
 abbrev pub IsReadStop : {Y : Type 0} → Result Y Stop → Type 0
@@ -69,6 +72,13 @@ NeverFails (Ok y) = Unit {0}
 NeverFails (Err (stop.Fails outcome)) = ⊥
 NeverFails (Err (stop.Read failed)) = Unit {0}
 NeverFails (Err stop.NoMemory) = Unit {0}
+
+-- no read failed
+abbrev pub NeverReads : {Y : Type 0} → Result Y Stop → Type 0
+NeverReads (Ok y) = Unit {0}
+NeverReads (Err (stop.Fails outcome)) = Unit {0}
+NeverReads (Err (stop.Read failed)) = ⊥
+NeverReads (Err stop.NoMemory) = Unit {0}
 
 -- an outcome that what was read decides: no read fault, and where it holds a fault, that has words
 abbrev pub IsDecided : Outcome → Type 0
@@ -95,23 +105,33 @@ Judges judged (Err (stop.Fails outcome)) = judged ≡ Err outcome
 Judges judged (Err (stop.Read failed)) = ⊥
 Judges judged (Err stop.NoMemory) = Unit {0}
 
--- this is where the values lie that a stripe has, unless a read failed or memory was refused
-abbrev pub Locates : List ℕ → StripeColumn → Result Values Stop → Type 0
-Locates file column (Ok values) = column ≡ values_in values.rows (slice_range file values.at (values.at + values.len))
-Locates file column (Err (stop.Fails outcome)) = column ≡ fails outcome
-Locates file column (Err (stop.Read failed)) = Unit {0}
-Locates file column (Err stop.NoMemory) = Unit {0}
+-- the bytes of a span of the file
+abbrev pub span_bytes : List ℕ → Span → List ℕ
+span_bytes file span = slice_range file span.at (span.at + span.len)
 
--- this is the total of the column's values, and their number
-pub record IsTotalOf (column : StripeColumn) (sum : StripeTotal) : Type 0 where
-  pub values : List ℤ
-  pub have : HasValues column values
-  pub count_is : sum.count ≡ length values
-  pub total_is : sum.total ≡ total_of values
+-- What a stripe has of the column is spelled by the streams that lie there, and by others, which aren't looked up.
+pub record IsPlaced (file : List ℕ) (stripe : ℕ) (column : SummedColumn) (rows : ℕ) (place : ColumnPlace) (found : StripeColumn) : Type 0 where
+  pub lengths : List ℕ
+  pub dictionary : List ℕ
+  pub is : found ≡ spelled_in (part_of stripe column rows place.encoding
+      (record { present = span_bytes file place.present; body = span_bytes file place.body; lengths = lengths; dictionary = dictionary }))
+
+-- this is where the column's streams lie, or its failure, unless a read failed or memory was refused
+abbrev pub Locates : List ℕ → ℕ → SummedColumn → ℕ → StripeColumn → Result ColumnPlace Stop → Type 0
+Locates file stripe column rows found (Ok place) = IsPlaced file stripe column rows place found
+Locates file stripe column rows found (Err (stop.Fails outcome)) = found ≡ fails outcome
+Locates file stripe column rows found (Err (stop.Read failed)) = Unit {0}
+Locates file stripe column rows found (Err stop.NoMemory) = Unit {0}
+
+-- the column has numbers, and this is their total
+pub record HasTotal (column : StripeColumn) (sum : StripeTotal) : Type 0 where
+  pub numbers : List ℤ
+  pub have : HasNumbers column numbers
+  pub total_is : IsTotalOf numbers sum
 
 -- this is the column's total, or its failure, unless a read failed or memory was refused
 abbrev pub Totals : StripeColumn → Result StripeTotal Stop → Type 0
-Totals column (Ok sum) = IsTotalOf column sum
+Totals column (Ok sum) = HasTotal column sum
 Totals column (Err (stop.Fails outcome)) = FailsBy column outcome
 Totals column (Err (stop.Read failed)) = Unit {0}
 Totals column (Err stop.NoMemory) = Unit {0}

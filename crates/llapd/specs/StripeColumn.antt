@@ -1,41 +1,81 @@
--- A column in one stripe of a file: its values, or why it has none. Source: Apache ORC specification v1, "Stripe
--- Footer" and "Run Length Encoding"; the failures are this project's own.
-use Rattle.std.specs.Prelude.{◌≡◌, ℕ, ◌+◌, ◌==◌, Bool, true, false, List, [], length, slice_range, slice_get, Option, Some, None, Result, Ok, Err, ℤ, if◌then◌else◌}
-use Rattle.outside.specs.Runs.{Spells, Breaks}
-use Rattle.outside.specs.declared.run_fault.RunFault.{RunFault}
-use Rattle.orc_rle.specs.IntRun1.{IntRun1, int_run1}
+-- A column of numbers in one stripe of a file: the streams that spell it and the numbers that it has, or why it has none.
+-- Source: Apache ORC specification v1, "Stripe Footer" and "Column Encodings"; the failures are this project's own.
+use Rattle.std.specs.Prelude.{◌≡◌, ℕ, ◌+◌, List, [], length, slice_range, slice_get, Option, Some, None, option_map, Result, Ok, Err, ℤ}
+use Rattle.orc_values.specs.declared.value.Value.{Value}
+use Rattle.orc_columns.specs.declared.fault.ColumnFault.{ColumnFault}
+use Rattle.orc_columns.specs.declared.plan.ColumnPlan.{ColumnPlan}
+use Rattle.orc_columns.specs.Column.{Streams, IsColumn, Fails}
 use Rattle.orc_tail.specs.declared.stripe.Stripe.{Stripe}
 use Rattle.orc_tail.specs.declared.stream.StreamRange.{StreamRange}
 use Rattle.orc_tail.specs.declared.encoding.Encoding.{Encoding}
 use Rattle.orc_tail.specs.declared.stripe_footer.StripeFooter.{StripeFooter}
 use Rattle.orc_tail.specs.declared.fault.TailFault.{TailFault}
 use Rattle.orc_tail.specs.declared.fault.TailFault.TheVariants as fault
-use Rattle.orc_tail.specs.StripeFooter.{stripe_footer, first_stream, has_bytes}
+use Rattle.orc_tail.specs.StripeFooter.{stripe_footer, first_stream}
+use Rattle.llapd.specs.declared.summed_column.SummedColumn.{SummedColumn}
 use Rattle.llapd.specs.declared.line.Outcome.{Outcome}
-use Rattle.llapd.specs.declared.line.Outcome.TheVariants.{Compressed, BrokenFooter, NotBuilt}
+use Rattle.llapd.specs.declared.line.Outcome.TheVariants.{Compressed, BrokenFooter, BrokenColumn}
+use Rattle.llapd.specs.Numbers.{numbers_in}
 
--- What a stripe has of a column: a failure, or a number of rows and the bytes of the stream that has their values.
+-- A column in the stripe of a number: its type's number, how many rows there are, and what spells them.
+pub record ColumnPart : Type 0 where
+  pub stripe : ℕ
+  pub column : ℕ
+  pub rows : ℕ
+  pub plan : ColumnPlan
+  pub streams : Streams
+
+-- What a stripe has of a column: a failure, or streams that spell it.
 pub data StripeColumn : Type 0 where
   fails : Outcome → StripeColumn
-  values_in : ℕ → List ℕ → StripeColumn
+  spelled_in : ColumnPart → StripeColumn
 
 -- the bytes of a stream; of one that isn't there, none
 abbrev pub stream_bytes : List ℕ → Option StreamRange → List ℕ
 stream_bytes file None = []
 stream_bytes file (Some stream) = slice_range file stream.at (stream.at + stream.len)
 
--- the encoding is there, and is DIRECT
-abbrev pub is_direct : Option Encoding → Bool
-is_direct None = false
-is_direct (Some encoding) = encoding.kind == 0
+-- The bytes of a column's streams: PRESENT is of kind 0, DATA of 1, LENGTH of 2 and DICTIONARY_DATA of 3.
+abbrev pub streams_of : List ℕ → ℕ → List StreamRange → Streams
+streams_of file column streams = record {
+  present = stream_bytes file (first_stream 0 column streams);
+  body = stream_bytes file (first_stream 1 column streams);
+  lengths = stream_bytes file (first_stream 2 column streams);
+  dictionary = stream_bytes file (first_stream 3 column streams);
+}
 
--- The column by the stripe's footer. One that isn't spelled DIRECT, and one with nulls, isn't read yet.
-abbrev pub column_in_streams : List ℕ → ℕ → ℕ → StripeFooter → StripeColumn
-column_in_streams file rows column footer =
-    if is_direct (slice_get footer.encodings column) then
-    (if has_bytes (first_stream 0 column footer.streams) then fails NotBuilt
-    else values_in rows (stream_bytes file (first_stream 1 column footer.streams)))
-    else fails NotBuilt
+-- the number of an encoding, where there is one
+abbrev pub encoding_kind : Option Encoding → Option ℕ
+encoding_kind encoding = option_map (λ (e : Encoding). e.kind) encoding
+
+abbrev pub dictionary_size_of : Option Encoding → ℕ
+dictionary_size_of None = 0
+dictionary_size_of (Some encoding) = encoding.dictionary_size
+
+-- The plan of a column by its kind and its encoding. A stream has the number of its kind there; what a column is doesn't
+-- depend on that.
+abbrev pub plan_of : ℕ → Option Encoding → Streams → ColumnPlan
+plan_of kind encoding streams = record {
+  kind = kind;
+  encoding = encoding_kind encoding;
+  dictionary_size = dictionary_size_of encoding;
+  present = Some 0;
+  body = Some 1;
+  length = Some 2;
+  dictionary = Some 3;
+  body_len = length streams.body;
+  dictionary_len = length streams.dictionary;
+}
+
+-- the part of a column in the stripe of that number, which has so many rows
+abbrev pub part_of : ℕ → SummedColumn → ℕ → Option Encoding → Streams → ColumnPart
+part_of stripe column rows encoding streams = record {
+  stripe = stripe;
+  column = column.number;
+  rows = rows;
+  plan = plan_of column.kind encoding streams;
+  streams = streams;
+}
 
 -- The failure by a fault of the footer of the stripe of that number. A footer has no compression of its own.
 abbrev pub footer_failure : ℕ → TailFault → Outcome
@@ -51,30 +91,30 @@ footer_failure number fault.StreamOutOfStripe = BrokenFooter number fault.Stream
 footer_failure number (fault.Read failed) = BrokenFooter number (fault.Read failed)
 footer_failure number fault.NoMemory = BrokenFooter number fault.NoMemory
 
-abbrev pub column_by_footer : List ℕ → ℕ → Stripe → ℕ → Result StripeFooter TailFault → StripeColumn
+-- the column by the footer of the stripe of that number
+abbrev pub column_by_footer : List ℕ → ℕ → Stripe → SummedColumn → Result StripeFooter TailFault → StripeColumn
 column_by_footer file number stripe column (Err fault) = fails (footer_failure number fault)
-column_by_footer file number stripe column (Ok footer) = column_in_streams file stripe.rows column footer
+column_by_footer file number stripe column (Ok footer) =
+    spelled_in (part_of number column stripe.rows (slice_get footer.encodings column.number) (streams_of file column.number footer.streams))
 
 -- the column in a stripe of a file's bytes, which has that number among its stripes
-abbrev pub stripe_column : List ℕ → ℕ → Stripe → ℕ → StripeColumn
+abbrev pub stripe_column : List ℕ → ℕ → Stripe → SummedColumn → StripeColumn
 stripe_column file number stripe column = column_by_footer file number stripe column (stripe_footer file stripe)
 
--- The stream spells so many values, and these are they.
-pub record Spelled (rows : ℕ) (stream : List ℕ) (values : List ℤ) : Type 0 where
-  pub rest : List ℕ
+-- The column has values in so many rows, and these are their numbers.
+pub record Spelled (plan : ColumnPlan) (streams : Streams) (rows : ℕ) (numbers : List ℤ) : Type 0 where
+  pub values : List Value
   pub count : length values ≡ rows
-  pub spells : Spells (IntRun1 true) stream values rest
+  pub column : IsColumn plan streams values
+  pub numbers_are : numbers ≡ numbers_in values
 
--- the stream doesn't spell so many values
-abbrev pub BreaksBefore : ℕ → List ℕ → Type 0
-BreaksBefore rows stream = (fault : RunFault) × Breaks (IntRun1 true) (int_run1 true) stream rows fault
+-- the column has these numbers
+abbrev pub HasNumbers : StripeColumn → List ℤ → Type 0
+HasNumbers (fails failure) numbers = ⊥
+HasNumbers (spelled_in part) numbers = Spelled part.plan part.streams part.rows numbers
 
--- the column has these values
-abbrev pub HasValues : StripeColumn → List ℤ → Type 0
-HasValues (fails failure) values = ⊥
-HasValues (values_in rows stream) values = Spelled rows stream values
-
--- The column fails so. A stream that breaks before its values isn't read yet.
+-- the column fails so
 abbrev pub FailsBy : StripeColumn → Outcome → Type 0
 FailsBy (fails failure) outcome = outcome ≡ failure
-FailsBy (values_in rows stream) outcome = BreaksBefore rows stream × (outcome ≡ NotBuilt)
+FailsBy (spelled_in part) outcome =
+    (fault : ColumnFault) × Fails part.plan part.streams part.rows fault × (outcome ≡ BrokenColumn part.stripe part.column fault)

@@ -2,7 +2,7 @@
 use Rattle.std.specs.Prelude.{◌≡◌, ◌≢◌, List, [], Some, None, ℤ, pos, ◌+ℤ◌, fold, FitsSigned}
 use Rattle.std.specs.Int.{w64}
 use Rattle.llapd.specs.declared.line.Outcome.{Outcome}
-use Rattle.llapd.specs.declared.line.Outcome.TheVariants.{Sum, NoFile, Compressed, BrokenTail, NoColumn, WrongKind, BrokenFooter, NotBuilt, ReadFault, Overflow}
+use Rattle.llapd.specs.declared.line.Outcome.TheVariants.{Sum, NoFile, Compressed, BrokenTail, NoColumn, WrongKind, BrokenFooter, BrokenColumn, ReadFault, Overflow}
 
 -- the total of values
 abbrev pub total_of : List ℤ → ℤ
@@ -20,5 +20,5 @@ IsTotal values (BrokenTail fault) = ⊥
 IsTotal values (NoColumn column) = ⊥
 IsTotal values (WrongKind column) = ⊥
 IsTotal values (BrokenFooter stripe fault) = ⊥
-IsTotal values NotBuilt = ⊥
+IsTotal values (BrokenColumn stripe column fault) = ⊥
 IsTotal values ReadFault = ⊥

@@ -1,10 +1,12 @@
 //! The line of a fragment's outcome.
 ghost use Rattle.std.specs.Prelude.{◌≡◌, ◌++◌, ◌∷◌, IfOk, codes};
 ghost use Rattle.std.specs.Fmt.{decimal};
-ghost use Rattle.llapd.specs.declared.line.Outcome.TheVariants.{Compressed, BrokenTail, BrokenFooter};
+ghost use Rattle.llapd.specs.declared.line.Outcome.TheVariants.{Compressed, BrokenTail, BrokenFooter, BrokenColumn};
 ghost use Rattle.llapd.specs.Line.{line, ended, bad_plan_text};
-ghost use Rattle.llapd.specs.Faults.{fault_words as words_of};
+ghost use Rattle.llapd.specs.Faults.{column_words};
 
+use crate::fault_words::{fault_words, run_words, stream_word};
+use orc_columns::ColumnFault;
 use orc_tail::TailFault;
 use outside::{Bytes, Name, NoMemory};
 use std::alloc::{AllocError, Global};
@@ -31,8 +33,15 @@ pub enum Outcome {
         /// Why it is refused.
         fault: TailFault,
     },
-    /// The column has a form that this program doesn't read yet.
-    NotBuilt,
+    /// The column is refused in a stripe.
+    BrokenColumn {
+        /// The stripe's number, from 0 on.
+        stripe: u32,
+        /// The number of the column's type.
+        column: u32,
+        /// Why it is refused.
+        fault: ColumnFault,
+    },
     /// A read of the file failed.
     ReadFault,
     /// The sum doesn't fit 64 bits.
@@ -61,7 +70,13 @@ pub fn line_of(alloc: Global, name: &Name, outcome: &Outcome) -> Result<Bytes, N
         Outcome::BrokenFooter { stripe, fault } => {
             return footer_line(alloc, fragment, *stripe, *fault);
         }
-        Outcome::NotBuilt => format!(in alloc; "{fragment} failed not built\n"),
+        Outcome::BrokenColumn {
+            stripe,
+            column,
+            fault,
+        } => {
+            return column_line(alloc, fragment, *stripe, *column, *fault);
+        }
         Outcome::ReadFault => format!(in alloc; "{fragment} failed read fault\n"),
         Outcome::Overflow => format!(in alloc; "{fragment} failed overflow\n"),
     };
@@ -99,6 +114,21 @@ fn footer_line(alloc: Global, name: &str, stripe: u32, fault: TailFault) -> Resu
     line_with(alloc, name, "failed broken stripe ", last.as_slice())
 }
 
+/// The line of a column that is refused in a stripe by that fault.
+fn column_line(
+    alloc: Global,
+    name: &str,
+    stripe: u32,
+    column: u32,
+    fault: ColumnFault,
+) -> Result<Bytes, NoMemory>
+    ensures { IfOk result (λ bytes. bytes ≡ line name.now (BrokenColumn stripe column fault)) }
+{
+    let words = column_fault_text(alloc, fault)?;
+    let last = column_text(alloc, stripe, column, words.as_slice())?;
+    line_with(alloc, name, "failed broken stripe ", last.as_slice())
+}
+
 /// The decimal numeral of a number.
 fn number_text(alloc: Global, number: u64) -> Result<Bytes, NoMemory>
     ensures { IfOk result (λ bytes. bytes ≡ decimal number) }
@@ -115,6 +145,50 @@ fn footer_text(alloc: Global, stripe: u32, words: &str) -> Result<Bytes, NoMemor
 {
     match format!(in alloc; "{stripe} footer {words}") {
         Ok(text) => Ok(Bytes::new(text.into_bytes())),
+        Err(_) => Err(NoMemory),
+    }
+}
+
+/// The words of a column's fault. One that is no fault of the column has none.
+fn column_fault_text(alloc: Global, fault: ColumnFault) -> Result<Bytes, NoMemory>
+    ensures { IfOk result (λ bytes. bytes ≡ column_words fault) }
+{
+    let text = match fault {
+        ColumnFault::BadEncoding => "encoding",
+        ColumnFault::Run(stream, fault) => {
+            return two_words(alloc, stream_word(stream), run_words(fault));
+        }
+        ColumnFault::NegativeLength => "negative length",
+        ColumnFault::LengthsPastData => "lengths",
+        ColumnFault::IndexOutOfDictionary => "index",
+        ColumnFault::Read(_) | ColumnFault::NoMemory => "",
+    };
+    match String::from_str(alloc, text) {
+        Ok(text) => Ok(Bytes::new(text.into_bytes())),
+        Err(_) => Err(NoMemory),
+    }
+}
+
+/// Two texts with a space between them.
+fn two_words(alloc: Global, first: &str, second: &str) -> Result<Bytes, NoMemory>
+    ensures { IfOk result (λ bytes. bytes ≡ first.now ++ 32 ∷ second.now) }
+{
+    match format!(in alloc; "{first} {second}") {
+        Ok(text) => Ok(Bytes::new(text.into_bytes())),
+        Err(_) => Err(NoMemory),
+    }
+}
+
+/// A stripe's number, a column's, and the words of the column's fault.
+fn column_text(alloc: Global, stripe: u32, column: u32, words: &[u8]) -> Result<Bytes, NoMemory>
+    ensures { IfOk result (λ bytes. bytes ≡ decimal stripe ++ (codes " column " ++ (decimal column ++ 32 ∷ words.now))) }
+{
+    let Ok(text) = format!(in alloc; "{stripe} column {column} ") else {
+        return Err(NoMemory);
+    };
+    let mut bytes = text.into_bytes();
+    match bytes.extend_from_slice(words) {
+        Ok(()) => Ok(Bytes::new(bytes)),
         Err(_) => Err(NoMemory),
     }
 }
@@ -140,24 +214,6 @@ fn joined(alloc: Global, name: &[u8], first: &[u8], second: &[u8]) -> Result<Vec
     line.extend_from_slice(second)?;
     line.push(b'\n')?;
     Ok(line)
-}
-
-/// The words of a fault of a tail or of a stripe's footer. One that is no fault of these, or an outcome of its
-/// own, has none.
-fn fault_words(fault: TailFault) -> &'static str
-    ensures { result.now ≡ words_of fault }
-{
-    match fault {
-        TailFault::TooShort => "short",
-        TailFault::NotOrc => "not orc",
-        TailFault::Wire(_) => "wire",
-        TailFault::OutOfFile => "out of file",
-        TailFault::BadTypes => "types",
-        TailFault::TooLarge => "too large",
-        TailFault::RootPresent => "root present",
-        TailFault::StreamOutOfStripe => "stream out of stripe",
-        TailFault::Compressed(_) | TailFault::Read(_) | TailFault::NoMemory => "",
-    }
 }
 
 /// The line for a plan that isn't one that the program runs, with its end.

@@ -5,6 +5,8 @@
 
 #[cfg(test)]
 mod call_tests;
+mod column_sum;
+mod fault_words;
 mod folder;
 mod laws;
 mod line;
@@ -13,8 +15,9 @@ mod run;
 mod scan;
 mod status;
 mod stop;
-mod sum;
+mod stripe_sum;
 mod sum_plan;
+mod summed_column;
 #[cfg(test)]
 mod tests;
 #[cfg(test)]

@@ -57,7 +57,6 @@ fn lines_are_as_written(rt: HostRuntime) -> Result<(), Fail> {
             Outcome::NoColumn(Bytes::new(b"y".as_slice().to_vec(rt.alloc())?)),
             "s failed no column y\n",
         ),
-        (Outcome::NotBuilt, "s failed not built\n"),
         (Outcome::ReadFault, "s failed read fault\n"),
         (Outcome::Overflow, "s failed overflow\n"),
     ];

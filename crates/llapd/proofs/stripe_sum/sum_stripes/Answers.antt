@@ -3,7 +3,7 @@ use Rattle.std.specs.Int.{w128}
 use Rattle.std.proofs.lemmas.Int.{ints, to_z-of_z}
 use Rattle.std.proofs.lemmas.Result.{err_from_is_err_and}
 use Rattle.llapd.proofs.StripeSums.{sum_starts, sum_steps, stripe_stops, sum_ends}
-use Rattle.llapd.proofs.scan.sum_stripes.Goals as goal
+use Rattle.llapd.proofs.stripe_sum.sum_stripes.Goals as goal
 
 pub loop-stripe-init : goal.loop-stripe-init
 loop-stripe-init g c = record {

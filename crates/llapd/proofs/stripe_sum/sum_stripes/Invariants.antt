@@ -2,7 +2,7 @@ use Rattle.std.proofs.Common.{◌≡◌, ◌≤◌, ℕ, List, take, pos, neg_�
 use Rattle.outside.specs.Files.{HasBytes}
 use Rattle.outside.specs.Reads.{ReadEntry}
 use Rattle.llapd.specs.Sum.{SumOfStripes}
-use Rattle.llapd.proofs.scan.sum_stripes.Given as goal
+use Rattle.llapd.proofs.stripe_sum.sum_stripes.Given as goal
 
 abbrev pub invariant-loop-stripe : goal.invariant-loop-stripe
 invariant-loop-stripe g l = record {

@@ -1,0 +1,9 @@
+use Rattle.std.proofs.Common.{refl}
+use Rattle.llapd.proofs.ColumnReading.{fault_is}
+use Rattle.llapd.proofs.column_sum.next_rows.Goals as goal
+
+pub returns-in_ok-unless_refused-in-Err-clause-goes : goal.returns-in_ok-unless_refused-in-Err-clause-goes
+returns-in_ok-unless_refused-in-Err-clause-goes c = λ before tells. (
+  c.in-Err.fault,
+  fault_is c.args.reader.now.plan c.args.feed.now c.next_batch.new.feed _ _ _ c.in-Err.fault before refl c.in_ok-unless_refused-in-Err.ensures (c.in-Err.ensures.draws c.requires.fresh) tells,
+)
