@@ -125,6 +125,15 @@ fn file_of(alloc: Global, values: &[u8], rows: u8, compression: u8) -> Result<Ve
     Ok(file)
 }
 
+/// A file with these values of that encoding, and so many rows.
+fn encoded(alloc: Global, values: &[u8], encoding: u8, rows: u8) -> Result<Vec<u8>, Fail> {
+    let mut file = file_of(alloc, values, rows, 0)?;
+    if let Some(kind) = file.get_mut(values.len() + 18) {
+        *kind = encoding;
+    }
+    Ok(file)
+}
+
 /// The file of 100 rows, with its stripe listed twice. The stripes' entries stand at 22 and 34.
 const TWICE: [u8; 80] = [
     79, 82, 67, 97, 0, 7, 10, 6, 8, 1, 16, 1, 24, 3, 18, 2, 8, 0, 18, 2, 8, 0, 26, 10, 8, 3, 16, 0,
@@ -146,6 +155,39 @@ const BACK: [u8; 107] = [
 const NO_STRIPE: [u8; 37] = [
     79, 82, 67, 34, 8, 8, 12, 18, 1, 1, 26, 1, 120, 34, 2, 8, 4, 48, 0, 8, 16, 16, 0, 34, 2, 0, 12,
     40, 0, 130, 244, 3, 3, 79, 82, 67, 17,
+];
+
+/// Five rows of an INT column, of which the second and the fifth are null: 1, -2 and 300 stand.
+const NULLS: [u8; 80] = [
+    79, 82, 67, 255, 176, 253, 2, 3, 216, 4, 10, 6, 8, 0, 16, 1, 24, 2, 10, 6, 8, 1, 16, 1, 24, 5,
+    18, 2, 8, 0, 18, 2, 8, 0, 26, 10, 8, 3, 16, 0, 24, 7, 32, 24, 40, 5, 34, 8, 8, 12, 18, 1, 1,
+    26, 1, 120, 34, 2, 8, 3, 48, 5, 8, 28, 16, 0, 34, 2, 0, 12, 40, 0, 130, 244, 3, 3, 79, 82, 67,
+    17,
+];
+
+/// Five rows of an INT column, all of them null, without a stream of values.
+const ALL_NULL: [u8; 67] = [
+    79, 82, 67, 255, 0, 10, 6, 8, 0, 16, 1, 24, 2, 18, 2, 8, 0, 18, 2, 8, 0, 26, 10, 8, 3, 16, 0,
+    24, 2, 32, 16, 40, 5, 34, 8, 8, 12, 18, 1, 1, 26, 1, 120, 34, 2, 8, 3, 48, 5, 8, 28, 16, 0, 34,
+    2, 0, 12, 40, 0, 130, 244, 3, 3, 79, 82, 67, 17,
+];
+
+/// The rows of both in two stripes, and a third of five rows 5,000, spelled by version 2.
+const THREE_STRIPES: [u8; 141] = [
+    79, 82, 67, 255, 176, 253, 2, 3, 216, 4, 10, 6, 8, 0, 16, 1, 24, 2, 10, 6, 8, 1, 16, 1, 24, 5,
+    18, 2, 8, 0, 18, 2, 8, 0, 255, 0, 10, 6, 8, 0, 16, 1, 24, 2, 18, 2, 8, 0, 18, 2, 8, 0, 10, 39,
+    16, 10, 6, 8, 1, 16, 1, 24, 3, 18, 2, 8, 0, 18, 2, 8, 2, 26, 10, 8, 3, 16, 0, 24, 7, 32, 24,
+    40, 5, 26, 10, 8, 34, 16, 0, 24, 2, 32, 16, 40, 5, 26, 10, 8, 52, 16, 0, 24, 3, 32, 16, 40, 5,
+    34, 8, 8, 12, 18, 1, 1, 26, 1, 120, 34, 2, 8, 3, 48, 15, 8, 52, 16, 0, 34, 2, 0, 12, 40, 0,
+    130, 244, 3, 3, 79, 82, 67, 17,
+];
+
+/// 2,000 rows, of which the flags end behind 1,048 and the values behind 100.
+const BOTH_END: [u8; 82] = [
+    79, 82, 67, 125, 255, 0, 255, 97, 0, 7, 10, 6, 8, 0, 16, 1, 24, 4, 10, 6, 8, 1, 16, 1, 24, 3,
+    18, 2, 8, 0, 18, 2, 8, 0, 26, 11, 8, 3, 16, 0, 24, 7, 32, 24, 40, 208, 15, 34, 8, 8, 12, 18, 1,
+    1, 26, 1, 120, 34, 2, 8, 3, 48, 208, 15, 8, 30, 16, 0, 34, 2, 0, 12, 40, 0, 130, 244, 3, 3, 79,
+    82, 67, 17,
 ];
 
 #[test]
@@ -259,14 +301,15 @@ fn wanted_failure(letter: u8) -> &'static str {
         b'k' => "s failed wrong kind x\n",
         b'w' => "s failed broken stripe 0 footer wire\n",
         b'o' => "s failed broken stripe 0 footer stream out of stripe\n",
-        _ => "s failed not built\n",
+        b'E' => "s failed broken stripe 0 column 1 encoding\n",
+        _ => "s failed broken stripe 0 column 1 data stream ends\n",
     }
 }
 
 /// What is wanted of a file of which the byte at that place is 7F, and 0, and of one that is cut to that length.
-const WITH_7F: &[u8] = b"ssssdbwww-w-wowwwswww-WWWOWOWOWOW-WWWTWWTWWcWWWkWsNONCNNssNsNNNNNNNS";
+const WITH_7F: &[u8] = b"ssssdbwwwDwDwowwwswwwEWWWOWOWOWOWDWWWTWWTWWcWWWkWsNONCNNssNsNNNNNNNS";
 
-const WITH_0: &[u8] = b"sss-szw-w-w-w-wswswswsW-WwWsWwW-WeWWWTWWTWWcWkWkWsNTNsNNssNsNNNNNNNN";
+const WITH_0: &[u8] = b"sssDszwDwewDwDwswswswsWEWwWsWwWEWeWWWTWWTWWcWkWkWsNTNsNNssNsNNNNNNNN";
 
 const CUT: &[u8] = b"SSSSSNSSNNNSNSNSNNNNNNNSNNNNNNNSNSSNNNNNNNNNSNNNNNSNNNNNNNNNNSSNNSSS";
 
@@ -314,7 +357,11 @@ fn the_least_stripe_that_fails_counts(rt: HostRuntime) -> Result<(), Fail> {
     let cases = [
         (25, 9, "s failed broken stripe 0 footer wire\n"),
         (43, 9, "s failed broken stripe 1 footer wire\n"),
-        (45, 101, "s failed not built\n"),
+        (
+            45,
+            101,
+            "s failed broken stripe 1 column 1 data stream ends\n",
+        ),
         (43, 101, "s failed broken tail out of file\n"),
     ];
     for (place, byte, text) in cases {
@@ -322,6 +369,85 @@ fn the_least_stripe_that_fails_counts(rt: HostRuntime) -> Result<(), Fail> {
         file[place] = byte;
         let call = sum_of(&file);
         assert!(rt; answers(alloc, &call, Status::SomeFailed, text)?, "{text}");
+    }
+    Ok(())
+}
+
+#[test]
+fn both_versions_of_runs_are_summed_or_have_their_fault(rt: HostRuntime) -> Result<(), Fail> {
+    let alloc = rt.alloc();
+    let patched = [
+        0x8E, 0x13, 0x2B, 0x21, 0x07, 0xD0, 0x1E, 0x00, 0x14, 0x70, 0x28, 0x32, 0x3C, 0x46, 0x50,
+        0x5A, 0x64, 0x6E, 0x78, 0x82, 0x8C, 0x96, 0xA0, 0xAA, 0xB4, 0xBE, 0xFC, 0xE8,
+    ];
+    let out_of_run = [
+        0x8E, 0x02, 0x2B, 0x21, 0x07, 0xD0, 0x1E, 0x00, 0x14, 0xFC, 0xE8,
+    ];
+    let direct = [0x5E, 0x03, 0x5C, 0xA1, 0xAB, 0x1E, 0xDE, 0xAD, 0xBE, 0xEF];
+    let cases: [(&[u8], u8, u8, &str); 11] = [
+        (&[0x62, 0, 7], 0, 100, "sum -400"),
+        (&[0x0A, 0x27, 0x10], 2, 5, "sum 25000"),
+        (&direct, 2, 4, "sum -42897"),
+        (&patched, 2, 20, "sum 1039890"),
+        (&[0xC6, 9, 2, 2, 0x22, 0x42, 0x42, 0x46], 2, 10, "sum 119"),
+        (
+            &[0x60, 0, 7],
+            0,
+            100,
+            "failed broken stripe 0 column 1 data stream ends",
+        ),
+        (
+            &[0xFF; 11],
+            0,
+            1,
+            "failed broken stripe 0 column 1 data long varint",
+        ),
+        (
+            &[0x8E, 0x13, 0x3F, 0x21],
+            2,
+            20,
+            "failed broken stripe 0 column 1 data patch too wide",
+        ),
+        (
+            &out_of_run,
+            2,
+            3,
+            "failed broken stripe 0 column 1 data patch out of run",
+        ),
+        (
+            &[0x61, 0, 7],
+            1,
+            100,
+            "failed broken stripe 0 column 1 encoding",
+        ),
+        (
+            &[0x61, 0, 7],
+            3,
+            100,
+            "failed broken stripe 0 column 1 encoding",
+        ),
+    ];
+    for (values, encoding, rows, text) in cases {
+        let file = encoded(alloc, values, encoding, rows)?;
+        let (_, sink) = answer(alloc, &sum_of(file.as_slice()))?;
+        let line = format!(in alloc; "s {text}\n")?;
+        assert_eq!(rt; sink.written().unwrap_or(&[]), line.as_bytes());
+    }
+    Ok(())
+}
+
+#[test]
+fn nulls_are_left_out(rt: HostRuntime) -> Result<(), Fail> {
+    let alloc = rt.alloc();
+    let cut = "s failed broken stripe 0 column 1 present stream ends\n";
+    let cases: [(&[u8], Status, &str); 4] = [
+        (&NULLS, Status::Done, "s sum 299\n"),
+        (&ALL_NULL, Status::Done, "s sum null\n"),
+        (&THREE_STRIPES, Status::Done, "s sum 25299\n"),
+        (&BOTH_END, Status::SomeFailed, cut),
+    ];
+    for (file, status, text) in cases {
+        assert!(rt; answers(alloc, &sum_of(file), status, text)?, "{text}");
     }
     Ok(())
 }

@@ -3,9 +3,10 @@ use crate::line::{Outcome, bad_plan_line, line_of};
 use crate::plan_bytes::{PlanError, read_all};
 use crate::sum_plan::read_sum_plan;
 use crate::words::{are_good, usage_line};
+use orc_columns::{ColumnFault, StreamName};
 use orc_proto::WireFault;
 use orc_tail::TailFault;
-use outside::{Bytes, Failed, MemorySource, Name};
+use outside::{Bytes, Failed, MemorySource, Name, RunFault};
 use std::test::Fail;
 
 #[test]
@@ -89,6 +90,44 @@ fn faults_have_their_words(rt: HostRuntime) -> Result<(), Fail> {
         let footer = line_of(rt.alloc(), &name, &broken)?;
         let text = format!(in rt.alloc(); "s failed broken stripe 12 footer {words}\n")?;
         assert_eq!(rt; footer.as_slice(), text.as_bytes());
+    }
+    Ok(())
+}
+
+#[test]
+fn faults_of_a_column_have_their_words(rt: HostRuntime) -> Result<(), Fail> {
+    let name = Name::new(String::from_str(rt.alloc(), "s")?);
+    let cases = [
+        (ColumnFault::BadEncoding, "encoding"),
+        (
+            ColumnFault::Run(StreamName::Present, RunFault::StreamEnds),
+            "present stream ends",
+        ),
+        (
+            ColumnFault::Run(StreamName::Body, RunFault::LongVarint),
+            "data long varint",
+        ),
+        (
+            ColumnFault::Run(StreamName::Length, RunFault::PatchOutOfRun),
+            "length patch out of run",
+        ),
+        (
+            ColumnFault::Run(StreamName::Body, RunFault::PatchTooWide),
+            "data patch too wide",
+        ),
+        (ColumnFault::NegativeLength, "negative length"),
+        (ColumnFault::LengthsPastData, "lengths"),
+        (ColumnFault::IndexOutOfDictionary, "index"),
+    ];
+    for (fault, words) in cases {
+        let broken = Outcome::BrokenColumn {
+            stripe: 12,
+            column: 3,
+            fault,
+        };
+        let line = line_of(rt.alloc(), &name, &broken)?;
+        let text = format!(in rt.alloc(); "s failed broken stripe 12 column 3 {words}\n")?;
+        assert_eq!(rt; line.as_slice(), text.as_bytes());
     }
     Ok(())
 }
