@@ -1,9 +1,9 @@
 -- How a column of numbers is read from a feed of its two streams, and what its batches make of the rows so far.
 use Rattle.std.specs.Prelude.{Result, Ok, Err, IfOk}
-use Rattle.std.proofs.Common.{◌≡◌, ◌≢◌, ℕ, ◌+◌, ◌≤◌, ◌<◌, Bool, true, false, List, [], ◌∷◌, ◌++◌, length, Option, Some, None, ℤ, pos, ◌+ℤ◌, fold, refl, sym, ◌∙◌, ap, subst, arith, length-append, inl, inr}
+use Rattle.std.proofs.Common.{◌≡◌, ◌≢◌, ℕ, ◌+◌, ◌≤◌, Bool, true, false, List, [], ◌∷◌, ◌++◌, length, Option, ℤ, pos, ◌+ℤ◌, fold, refl, sym, ◌∙◌, ap, subst, arith, length-append, inl, inr}
 use Rattle.std.proofs.lemmas.List.Sums.{fold-append}
 use Rattle.outside.specs.declared.slice_feed.SliceFeed.{SliceFeed}
-use Rattle.outside.specs.Cause.{Cause, Rose}
+use Rattle.outside.specs.Cause.{Rose}
 use Rattle.outside.specs.SliceFeed.{rest_of, Fed}
 use Rattle.orc_values.specs.declared.value.Value.{Value}
 use Rattle.orc_values.specs.declared.value.Value.TheVariants.{Null, Bool as OfBool, Int, Text}
@@ -12,7 +12,7 @@ use Rattle.orc_columns.specs.declared.fault.ColumnFault.{ColumnFault}
 use Rattle.orc_columns.specs.declared.fault.ColumnFault.TheVariants.{BadEncoding, Run, NegativeLength, LengthsPastData, IndexOutOfDictionary, Read, NoMemory}
 use Rattle.orc_columns.specs.declared.plan.ColumnPlan.{ColumnPlan}
 use Rattle.orc_columns.specs.Column.{Streams, IsColumn, Fails}
-use Rattle.orc_columns.specs.Draws.{Differ, StreamsDiffer, Tells, IsReadError, FailedToRead, Decided, Draws}
+use Rattle.orc_columns.specs.Draws.{Tells, IsReadError, Decided, Draws}
 use Rattle.orc_columns.specs.declared.spelling.Spelling.{Spelling}
 use Rattle.orc_columns.specs.declared.spelling.Version.{Version}
 use Rattle.orc_columns.specs.Column.{LengthsFail, ValuesFail}
@@ -22,7 +22,6 @@ use Rattle.orc_columns.specs.Column.Fails.{encoding as bad_encoding, nulls as ba
 use Rattle.orc_columns.specs.FirstFault.{Finds, Judges}
 use Rattle.orc_columns.specs.Laws.{NeverBoth, GivesTheColumn}
 use Rattle.orc_columns.specs.Midway.{ReaderOf, Midway}
-use Rattle.orc_columns.specs.Reader.{RowsGoOn, RowsFail, Begins, FailsAtStart, HasLengths}
 use Rattle.llapd.specs.declared.column_sum.StripeTotal.{StripeTotal}
 use Rattle.llapd.specs.Faults.{HasColumnWords}
 use Rattle.llapd.specs.Numbers.{numbers_in}
@@ -31,41 +30,9 @@ use Rattle.llapd.specs.Sum.{numbers_plan, numbers_streams, FeedsTwo, IsTotalOf, 
 
 -- ---- the plan and its feed
 
-number_is : (a b : ℕ) → Some a ≡ Some b → a ≡ b
-number_is a b e = cc
-
-some_none : (a : ℕ) → None ≡ Some a → ⊥
-some_none a e = cc
-
-none_differs : (a : Option ℕ) → Differ a None
-none_differs a stream one two = absurd (some_none stream two)
-
-zero_and_one : Differ (Some 0) (Some 1)
-zero_and_one stream one two = absurd (omega (arith, number_is 0 stream one, number_is 1 stream two))
-
-pub numbers_differ : (kind : ℕ) (encoding : Option Encoding) (len : ℕ) → StreamsDiffer (numbers_plan kind encoding len)
-numbers_differ kind encoding len = record {
-  present_body = zero_and_one;
-  present_length = none_differs (Some 0);
-  present_dictionary = none_differs (Some 0);
-  body_length = none_differs (Some 1);
-  body_dictionary = none_differs (Some 1);
-  length_dictionary = none_differs None;
-}
-
 pub numbers_told : (kind : ℕ) (encoding : Option Encoding) (len : ℕ) (feed : SliceFeed) (present body : List ℕ) → FeedsTwo feed present body
     → Tells rest_of feed (numbers_plan kind encoding len) (numbers_streams present body)
 numbers_told kind encoding len feed present body two = record { present = two.present_is; body = two.body_is; lengths = refl; dictionary = refl }
-
-list_is : (a b : List ℕ) → Some a ≡ Some b → a ≡ b
-list_is a b e = cc
-
-pub numbers_sized : (kind : ℕ) (encoding : Option Encoding) (feed : SliceFeed) (present body : List ℕ) → FeedsTwo feed present body
-    → HasLengths rest_of feed (numbers_plan kind encoding (length body))
-numbers_sized kind encoding feed present body two = λ s tells. (
-  ap (λ (xs : List ℕ). length xs) (list_is body s.body (sym two.body_is ∙ tells.body)),
-  ap (λ (xs : List ℕ). length xs) (list_is [] s.dictionary tells.dictionary),
-)
 
 -- ---- faults
 

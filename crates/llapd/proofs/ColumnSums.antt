@@ -1,13 +1,11 @@
 -- How the numbers of a column are summed, batch by batch.
-use Rattle.std.specs.Prelude.{Result, Ok, Err, IfErr, if◌then◌else◌, ◌==◌, ◌||◌, IsTrue}
-use Rattle.std.proofs.Common.{◌≡◌, ◌≢◌, ◌⊎◌, ℕ, ◌+◌, ◌≤◌, ◌<◌, Bool, true, false, List, [], ◌∷◌, ◌++◌, length, take, get_or, map, Option, Some, None, ℤ, pos, ◌+ℤ◌, fold, refl, sym, ◌∙◌, ap, subst, arith, length-append, inl, inr}
+use Rattle.std.proofs.Common.{◌≡◌, ℕ, ◌+◌, ◌≤◌, ◌<◌, Bool, true, false, List, [], ◌∷◌, ◌++◌, length, take, get_or, map, ℤ, ◌+ℤ◌, fold, refl, sym, ◌∙◌, ap, arith}
 use Rattle.std.proofs.lemmas.List.{take_more, length-take-le, length-map}
 use Rattle.std.proofs.lemmas.List.Sums.{fold-append}
 use Rattle.orc_values.specs.declared.value.Value.{Value}
 use Rattle.orc_values.specs.declared.value.Value.TheVariants as value
 use Rattle.orc_values.specs.declared.column_values.ColumnValues.{ColumnValues}
-use Rattle.orc_values.specs.declared.column_values.ColumnValues.TheVariants as list
-use Rattle.orc_values.specs.Column.{column_of, value_by, entries_in, is_present, present_of}
+use Rattle.orc_values.specs.Column.{column_of, value_by, is_present, present_of}
 use Rattle.orc_values.specs.Woven.{present_count, aligned}
 use Rattle.llapd.specs.Numbers.{numbers_in, kept, with_entry}
 

@@ -16,7 +16,7 @@ use Rattle.llapd.specs.StripeColumn.{StripeColumn, fails, spelled_in, stripe_col
 use Rattle.llapd.specs.Stripes.{HaveNumbers, FirstFails, IsOutcomeOf, broken, summed}
 use Rattle.llapd.specs.Stripes.HaveNumbers.{none as have_none, next as have_next}
 use Rattle.llapd.specs.Stripes.FirstFails.{here, later}
-use Rattle.llapd.specs.Meaning.{Found, column_in, Means}
+use Rattle.llapd.specs.Meaning.{column_in}
 use Rattle.llapd.specs.Meaning.{fails as found_fails}
 
 -- ---- the total of values

@@ -1,5 +1,5 @@
 -- What the steps of a scan find, by what the file's bytes make of its tail, its stripe's footer and its streams.
-use Rattle.std.specs.Prelude.{Result, Ok, Err, find, slice_get, slice_range, ◌==◌, ◌&&◌, if◌then◌else◌}
+use Rattle.std.specs.Prelude.{Result, Ok, Err, find, slice_get, ◌==◌, ◌&&◌, if◌then◌else◌}
 use Rattle.std.proofs.Common.{◌≡◌, ℕ, ◌+◌, ◌≤◌, Bool, true, false, List, [], ◌∷◌, Option, Some, None, refl, sym, ◌∙◌, ap, subst, arith}
 use Rattle.outside.specs.declared.file_ref.FileRef.{FileRef}
 use Rattle.outside.specs.Reads.{ReadEntry}

@@ -1,5 +1,5 @@
 -- What a scan's steps answer, by what the file's bytes make of them. Source: this project's own.
-use Rattle.std.specs.Prelude.{◌≡◌, ◌≢◌, ℕ, ℤ, ◌+◌, List, length, slice_range, slice_get, Option, Some, None, Result, Ok, Err}
+use Rattle.std.specs.Prelude.{◌≡◌, ◌≢◌, ℕ, ℤ, ◌+◌, List, slice_range, slice_get, Option, Some, None, Result, Ok, Err}
 use Rattle.orc_tail.specs.declared.fault.TailFault.{TailFault}
 use Rattle.orc_tail.specs.declared.fault.TailFault.TheVariants as fault
 use Rattle.orc_tail.specs.declared.stripe_footer.StripeFooter.{StripeFooter}

@@ -1,4 +1,4 @@
-use Rattle.std.proofs.Common.{◌≡◌, length, refl, sym, ◌∙◌, ap, Ok, None, Some}
+use Rattle.std.proofs.Common.{length, ◌∙◌, ap, Ok, None, Some}
 use Rattle.llapd.specs.Sum.{numbers_plan, numbers_streams}
 use Rattle.llapd.proofs.ColumnReading.{numbers_told, found_is, not_whole}
 use Rattle.llapd.proofs.column_sum.fault_of_column.Goals as goal

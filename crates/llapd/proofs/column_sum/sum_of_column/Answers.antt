@@ -1,4 +1,4 @@
-use Rattle.std.proofs.Common.{◌≡◌, length, refl, sym, ◌∙◌}
+use Rattle.std.proofs.Common.{length, refl, ◌∙◌}
 use Rattle.llapd.specs.Sum.{numbers_plan, numbers_streams}
 use Rattle.llapd.proofs.ColumnReading.{numbers_told, fault_is, goes_is, started, fails_at_start}
 use Rattle.llapd.proofs.column_sum.sum_of_column.Goals as goal

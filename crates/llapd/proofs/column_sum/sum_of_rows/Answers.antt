@@ -1,6 +1,6 @@
-use Rattle.std.proofs.Common.{◌≡◌, ℕ, ◌+◌, ◌≤◌, true, false, arith, refl, sym, ◌∙◌}
-use Rattle.std.proofs.lemmas.Int.{ints, to_z-of_z}
-use Rattle.llapd.proofs.ColumnReading.{rows_begin, rows_go_on, rows_fail, rows_end}
+use Rattle.std.proofs.Common.{arith, ◌∙◌}
+use Rattle.std.proofs.lemmas.Int.{ints}
+use Rattle.llapd.proofs.ColumnReading.{rows_go_on, rows_fail, rows_end}
 use Rattle.llapd.proofs.column_sum.sum_of_rows.Goals as goal
 
 pub returns-then-not-branch-clause-summed : goal.returns-then-not-branch-clause-summed

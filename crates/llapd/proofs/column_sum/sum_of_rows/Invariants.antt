@@ -1,4 +1,4 @@
-use Rattle.std.proofs.Common.{◌≡◌, ℕ, ◌*◌, ◌-◌, ◌^◌, ◌≤◌, [], None, pos, neg_ℤ, ◌≤ℤ◌}
+use Rattle.std.proofs.Common.{◌≡◌, ◌*◌, ◌-◌, ◌^◌, ◌≤◌, [], None, pos, neg_ℤ, ◌≤ℤ◌}
 use Rattle.outside.specs.SliceFeed.{rest_of}
 use Rattle.orc_columns.specs.Column.{Streams}
 use Rattle.orc_columns.specs.Draws.{Tells}

@@ -1,4 +1,4 @@
-use Rattle.std.proofs.Common.{◌≡◌, ℕ, ◌+◌, ◌≤◌, Err, arith, sym, subst}
+use Rattle.std.proofs.Common.{◌+◌, ◌≤◌, Err, arith, sym, subst}
 use Rattle.orc_tail.specs.StripeFooter.{footer_at}
 use Rattle.llapd.specs.declared.stop.Stop.{Stop}
 use Rattle.llapd.specs.declared.stripe_sum.ColumnPlace.{ColumnPlace}

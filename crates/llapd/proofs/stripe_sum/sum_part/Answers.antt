@@ -1,4 +1,3 @@
-use Rattle.std.proofs.Common.{◌≡◌, sym, ◌∙◌}
 use Rattle.llapd.proofs.ColumnReading.{fault_words}
 use Rattle.llapd.proofs.Parts.{total_there, failure_there}
 use Rattle.llapd.proofs.stripe_sum.sum_part.Goals as goal
@@ -9,3 +8,7 @@ returns-in_ok-fault-in-None-clause-told c = λ lengths dictionary.
 
 pub returns-in_ok-fault-in-None-clause-decided : goal.returns-in_ok-fault-in-None-clause-decided
 returns-in_ok-fault-in-None-clause-decided c = (fault_words c.in_ok-fault-in-None.fault c.in_ok-fault-in-None.ensures, λ e. cc)
+
+pub returns-in-Some-clause-told : goal.returns-in-Some-clause-told
+returns-in-Some-clause-told c = λ lengths dictionary.
+    total_there c.args.column.kind c.args.encoding c.args.present.now c.args.body.now lengths dictionary c.requires.numbers c.args.index c.args.column.number c.args.rows c.in-Some.sum (rw c.in-Some.is at c.in_ok-sum.ensures.summed)

@@ -1,4 +1,4 @@
-use Rattle.std.proofs.Common.{◌≡◌, ◌++◌, sym, ◌∙◌}
+use Rattle.std.proofs.Common.{◌++◌, ◌∙◌}
 use Rattle.llapd.specs.StripeColumn.{stripe_column}
 use Rattle.llapd.proofs.Parts.{totals_there}
 use Rattle.llapd.proofs.stripe_sum.sum_stripe.Goals as goal

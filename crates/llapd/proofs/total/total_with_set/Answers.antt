@@ -1,4 +1,4 @@
-use Rattle.std.proofs.Common.{◌≡◌, arith, false, pos, sym, ◌∙◌}
+use Rattle.std.proofs.Common.{arith, false, pos, ◌∙◌}
 use Rattle.std.specs.Int.{w128}
 use Rattle.std.proofs.lemmas.Int.{ints, to_z-of_z}
 use Rattle.llapd.proofs.ColumnSums.{kept_more}

@@ -1,11 +1,10 @@
-use Rattle.std.proofs.Common.{◌≡◌, ℕ, ◌+◌, ◌≤◌, ℤ, Bool, List, length, arith, refl, sym, ◌∙◌, ap}
+use Rattle.std.proofs.Common.{◌≡◌, ℤ, Bool, List, length, arith, refl, sym, ◌∙◌, ap}
 use Rattle.std.proofs.lemmas.Int.{ints, to_z-of_z}
 use Rattle.std.proofs.lemmas.List.{length-map}
 use Rattle.orc_values.specs.declared.column_values.ColumnValues.TheVariants as list
 use Rattle.orc_values.specs.declared.column_values.ColumnValues.{ColumnValues}
 use Rattle.orc_values.specs.Column.{entries_in, is_present, present_of}
 use Rattle.orc_values.specs.Woven.{present_count}
-use Rattle.llapd.specs.Numbers.{numbers_in, kept}
 use Rattle.llapd.proofs.ColumnSums.{numbers_kept, truths_hold_no_number, texts_hold_no_number, kept_length, standing_within, numbers_as}
 use Rattle.llapd.proofs.column_sum.StripeTotal.with.Goals as goal
 
