@@ -2,7 +2,7 @@
 use Rattle.std.proofs.Common.{◌≡◌, ℕ, List, Option, Some, None, sym, ◌∙◌, arith}
 use Rattle.orc_columns.specs.declared.plan.ColumnPlan.{ColumnPlan}
 use Rattle.orc_columns.specs.Column.{Streams}
-use Rattle.orc_columns.specs.Draws.{Differ, StreamsDiffer, Tells}
+use Rattle.orc_columns.specs.Draws.{StreamsDiffer, Tells}
 use Rattle.orc_columns.specs.FirstFault.{Sized}
 use Rattle.orc_columns.specs.Optional.{rest_in}
 

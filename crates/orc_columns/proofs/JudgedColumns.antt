@@ -15,6 +15,7 @@ use Rattle.orc_columns.specs.declared.fault.StreamName.TheVariants as name
 use Rattle.orc_columns.specs.declared.plan.ColumnPlan.{ColumnPlan}
 use Rattle.orc_columns.specs.declared.spelling.Spelling.{Spelling}
 use Rattle.orc_columns.specs.declared.spelling.Spelling.TheVariants.{Bits, Integers, Texts, Dictionary}
+use Rattle.orc_columns.specs.Batches.{HoldsNoRead}
 use Rattle.orc_columns.specs.Column.{Streams, PresentBreaks, AreValues, ValuesFail, bits, integers, texts, entries, places, index, Fails, encoding, nulls, values, row_value, rows_of}
 use Rattle.orc_columns.specs.Decoders.{PresentOf, new_present}
 use Rattle.orc_columns.specs.Draws.{StreamsDiffer, Tells, Draws, Decided, of_run, OnlyPresent}
@@ -122,6 +123,7 @@ module _ {F : Type 0} (rest : F → ℕ → Option (List ℕ)) (fed : F → List
     own = d.own;
     cause = record { later = d.cause.later; failed = λ f. absurd f };
     undecided = tt;
+    no_read = tt;
     told = λ s tells. (d.told s tells).2;
   }
 
@@ -134,14 +136,15 @@ module _ {F : Type 0} (rest : F → ℕ → Option (List ℕ)) (fed : F → List
   fault_of A LengthsPastData decided so = so
   fault_of A IndexOutOfDictionary decided so = so
 
-  pub found_fault : (first last : F) (rows : ℕ) (fault : ColumnFault) → (IsUndecided fault → ⊥)
+  pub found_fault : (first last : F) (rows : ℕ) (fault : ColumnFault) → (IsUndecided fault → ⊥) → HoldsNoRead fault
       → Draws {Y = Unit {0}} rest fed count plan first last (λ before after u. JudgedColumn plan rows before) (λ before fault. Fails plan before rows fault) (Err fault) → Judges rest fed count plan rows first last (Ok (Some fault))
-  found_fault first last rows fault decided d = record {
+  found_fault first last rows fault decided no_read d = record {
     takes = d.takes;
     led = d.led;
     own = d.own;
     cause = record { later = d.cause.later; failed = λ f. absurd f };
     undecided = tt;
+    no_read = no_read;
     told = λ s tells. fault_of (λ f. Fails plan s rows f) fault decided (d.told s tells);
   }
 
@@ -153,6 +156,7 @@ module _ {F : Type 0} (rest : F → ℕ → Option (List ℕ)) (fed : F → List
     own = d.own;
     cause = d.cause;
     undecided = undecided;
+    no_read = tt;
     told = λ s tells. tt;
   }
 
@@ -163,15 +167,16 @@ module _ {F : Type 0} (rest : F → ℕ → Option (List ℕ)) (fed : F → List
     own = tt;
     cause = record { later = omega arith; failed = λ f. absurd f };
     undecided = tt;
+    no_read = tt;
     told = λ s tells. encoding lacks;
   }
 
-  pub found_so : (first last : F) (rows : ℕ) (fault : ColumnFault)
+  pub found_so : (first last : F) (rows : ℕ) (fault : ColumnFault) → HoldsNoRead fault
       → Draws {Y = Unit {0}} rest fed count plan first last (λ before after u. JudgedColumn plan rows before) (λ before fault. Fails plan before rows fault) (Err fault) → Judges rest fed count plan rows first last (found_by fault)
-  found_so first last rows (Read failed) d = found_nothing first last rows (Read failed) tt d
-  found_so first last rows NoMemory d = found_nothing first last rows NoMemory tt d
-  found_so first last rows BadEncoding d = found_fault first last rows BadEncoding (λ f. f) d
-  found_so first last rows (Run name fault) d = found_fault first last rows (Run name fault) (λ f. f) d
-  found_so first last rows NegativeLength d = found_fault first last rows NegativeLength (λ f. f) d
-  found_so first last rows LengthsPastData d = found_fault first last rows LengthsPastData (λ f. f) d
-  found_so first last rows IndexOutOfDictionary d = found_fault first last rows IndexOutOfDictionary (λ f. f) d
+  found_so first last rows (Read failed) no_read d = found_nothing first last rows (Read failed) tt d
+  found_so first last rows NoMemory no_read d = found_nothing first last rows NoMemory tt d
+  found_so first last rows BadEncoding no_read d = found_fault first last rows BadEncoding (λ f. f) no_read d
+  found_so first last rows (Run name fault) no_read d = found_fault first last rows (Run name fault) (λ f. f) no_read d
+  found_so first last rows NegativeLength no_read d = found_fault first last rows NegativeLength (λ f. f) no_read d
+  found_so first last rows LengthsPastData no_read d = found_fault first last rows LengthsPastData (λ f. f) no_read d
+  found_so first last rows IndexOutOfDictionary no_read d = found_fault first last rows IndexOutOfDictionary (λ f. f) no_read d

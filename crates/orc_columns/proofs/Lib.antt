@@ -11,6 +11,7 @@ mod Fronts
 mod Judged
 mod JudgedColumns
 mod KindsOf
+mod NoRead
 mod NumberBatches
 mod OneColumn
 mod OneSpelling

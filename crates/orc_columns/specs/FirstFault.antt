@@ -1,5 +1,5 @@
 -- What judging a column finds, over all its rows. Source: this project's own.
-use Rattle.std.specs.Prelude.{◌≡◌, ℕ, Bool, List, length, Option, None, Some, Result, Ok, Err, IfOk, IfErr}
+use Rattle.std.specs.Prelude.{◌≡◌, ℕ, Bool, List, length, Option, None, Some, Result, Ok, Err, IfOk, IfErr, IfSome}
 use Rattle.outside.specs.declared.run_fault.RunFault.{RunFault}
 use Rattle.outside.specs.Cause.{Cause}
 use Rattle.outside.specs.Feed.{Taken}
@@ -11,6 +11,7 @@ use Rattle.orc_columns.specs.declared.fault.StreamName.TheVariants as name
 use Rattle.orc_columns.specs.declared.plan.ColumnPlan.{ColumnPlan}
 use Rattle.orc_columns.specs.declared.spelling.Spelling.{Spelling}
 use Rattle.orc_columns.specs.declared.spelling.Version.{Version}
+use Rattle.orc_columns.specs.Batches.{HoldsNoRead}
 use Rattle.orc_columns.specs.Column.{Streams, ArePresent, PresentBreaks, AreLengths, AreValues, IsColumn, Fails}
 use Rattle.orc_columns.specs.Draws.{AllOfPlan, Tells, FailedToRead, OnlyPresent, OnlyLengths}
 
@@ -40,13 +41,14 @@ found_by LengthsPastData = Ok (Some LengthsPastData)
 found_by IndexOutOfDictionary = Ok (Some IndexOutOfDictionary)
 
 -- A column was judged: takes are of its plan's streams alone, an error is that the feed failed, by its cause, or that memory
--- was refused, and where the streams were told, the answer is what is found of them.
+-- was refused, no run's fault that is found is the feed's, and where the streams were told, the answer is what is found of them.
 pub record Judges {F : Type 0} (rest : F → ℕ → Option (List ℕ)) (fed : F → List Taken → F → Type 0) (count : F → ℕ) (plan : ColumnPlan) (rows : ℕ) (first last : F) (answer : Result (Option ColumnFault) ColumnFault) : Type 0 where
   pub takes : List Taken
   pub led : fed first takes last
   pub own : AllOfPlan plan takes
   pub cause : Cause (count first) (count last) (FailedToRead answer)
   pub undecided : IfErr answer IsUndecided
+  pub no_read : IfOk answer (λ found. IfSome found HoldsNoRead)
   pub told : (s : Streams) → Tells rest first plan s → IfOk answer (Finds plan rows s)
 
 -- the lengths of the texts' streams are those that the plan says

@@ -1,5 +1,6 @@
 //! Judging a column of a stripe, stream by stream, without its values.
-ghost use Rattle.std.specs.Prelude.{◌≡◌, Some};
+ghost use Rattle.std.specs.Prelude.{◌≡◌, Some, IfErr};
+ghost use Rattle.orc_columns.specs.Batches.{HoldsNoRead};
 ghost use Rattle.orc_columns.specs.Column.{Streams, LengthsFail, ValuesFail, Fails};
 ghost use Rattle.orc_columns.specs.Draws.{StreamsDiffer, Tells, Draws};
 ghost use Rattle.orc_columns.specs.FirstFault.{found_by, Judges, Sized, StandingRows, NoStandingRows, JudgedLengths, JudgedValues, JudgedColumn};
@@ -65,7 +66,8 @@ fn judge<F: Feed>(
     requires differ { StreamsDiffer plan }
     requires lens { (s : Streams) → Tells F.rest feed.old plan s → Sized plan s }
     requires spelled { spelling_by plan.kind plan.encoding ≡ Some spelling }
-    ensures { Draws F.rest F.fed F.fault_count plan feed.old feed.new
+    ensures no_read { IfErr result HoldsNoRead }
+    ensures draws { Draws F.rest F.fed F.fault_count plan feed.old feed.new
         (λ before after _. JudgedColumn plan rows before) (λ before fault. Fails plan before rows fault) result }
 {
     let standing = standing_rows(plan, feed, rows)?;
@@ -75,7 +77,8 @@ fn judge<F: Feed>(
 /// How many rows have a value.
 fn standing_rows<F: Feed>(plan: ColumnPlan, feed: &mut F, rows: u64) -> Result<u64, ColumnFault>
     requires differ { StreamsDiffer plan }
-    ensures { Draws F.rest F.fed F.fault_count plan feed.old feed.new (StandingRows rows) (NoStandingRows rows) result }
+    ensures no_read { IfErr result HoldsNoRead }
+    ensures draws { Draws F.rest F.fed F.fault_count plan feed.old feed.new (StandingRows rows) (NoStandingRows rows) result }
 {
     let mut present = Present::new(plan.present);
     match count_flags(feed, &mut present, rows) {
@@ -92,7 +95,8 @@ fn judge_values<F: Feed>(
     count: u64,
 ) -> Result<(), ColumnFault>
     requires differ { StreamsDiffer plan }
-    ensures { Draws F.rest F.fed F.fault_count plan feed.old feed.new
+    ensures no_read { IfErr result HoldsNoRead }
+    ensures draws { Draws F.rest F.fed F.fault_count plan feed.old feed.new
         (λ before after _. Sized plan before → JudgedValues spelling plan.dictionary_size count before)
         (λ before fault. Sized plan before → ValuesFail plan.dictionary_size before count spelling fault) result }
 {
@@ -106,7 +110,8 @@ fn judge_values<F: Feed>(
 
 fn judge_bits<F: Feed>(plan: ColumnPlan, feed: &mut F, count: u64) -> Result<(), ColumnFault>
     requires differ { StreamsDiffer plan }
-    ensures { Draws F.rest F.fed F.fault_count plan feed.old feed.new
+    ensures no_read { IfErr result HoldsNoRead }
+    ensures draws { Draws F.rest F.fed F.fault_count plan feed.old feed.new
         (λ before after _. JudgedValues Bits plan.dictionary_size count before)
         (λ before fault. ValuesFail plan.dictionary_size before count Bits fault) result }
 {
@@ -124,7 +129,8 @@ fn judge_integers<F: Feed>(
     count: u64,
 ) -> Result<(), ColumnFault>
     requires differ { StreamsDiffer plan }
-    ensures { Draws F.rest F.fed F.fault_count plan feed.old feed.new
+    ensures no_read { IfErr result HoldsNoRead }
+    ensures draws { Draws F.rest F.fed F.fault_count plan feed.old feed.new
         (λ before after _. JudgedValues (OfIntegers version) plan.dictionary_size count before)
         (λ before fault. ValuesFail plan.dictionary_size before count (OfIntegers version) fault) result }
 {
@@ -144,7 +150,8 @@ fn judge_lengths<F: Feed>(
     count: u64,
 ) -> Result<(), ColumnFault>
     requires differ { StreamsDiffer plan }
-    ensures { Draws F.rest F.fed F.fault_count plan feed.old feed.new
+    ensures no_read { IfErr result HoldsNoRead }
+    ensures draws { Draws F.rest F.fed F.fault_count plan feed.old feed.new
         (λ before after _. JudgedLengths version limit count before after)
         (λ before fault. LengthsFail version before.lengths limit count fault) result }
 {
@@ -169,7 +176,8 @@ fn judge_texts<F: Feed>(
     count: u64,
 ) -> Result<(), ColumnFault>
     requires differ { StreamsDiffer plan }
-    ensures { Draws F.rest F.fed F.fault_count plan feed.old feed.new
+    ensures no_read { IfErr result HoldsNoRead }
+    ensures draws { Draws F.rest F.fed F.fault_count plan feed.old feed.new
         (λ before after _. Sized plan before → JudgedValues (Texts version) plan.dictionary_size count before)
         (λ before fault. Sized plan before → ValuesFail plan.dictionary_size before count (Texts version) fault) result }
 {
@@ -183,7 +191,8 @@ fn judge_dictionary<F: Feed>(
     count: u64,
 ) -> Result<(), ColumnFault>
     requires differ { StreamsDiffer plan }
-    ensures { Draws F.rest F.fed F.fault_count plan feed.old feed.new
+    ensures no_read { IfErr result HoldsNoRead }
+    ensures draws { Draws F.rest F.fed F.fault_count plan feed.old feed.new
         (λ before after _. Sized plan before → JudgedValues (Dictionary version) plan.dictionary_size count before)
         (λ before fault. Sized plan before → ValuesFail plan.dictionary_size before count (Dictionary version) fault) result }
 {
