@@ -8,6 +8,8 @@ use Rattle.outside.specs.SliceFeed.{rest_of, Fed}
 use Rattle.orc_values.specs.declared.value.Value.{Value}
 use Rattle.orc_values.specs.declared.value.Value.TheVariants.{Null, Bool as OfBool, Int, Text}
 use Rattle.orc_tail.specs.declared.encoding.Encoding.{Encoding}
+use Rattle.outside.specs.declared.run_fault.RunFault.TheVariants as run
+use Rattle.orc_columns.specs.Batches.{HoldsNoRead}
 use Rattle.orc_columns.specs.declared.fault.ColumnFault.{ColumnFault}
 use Rattle.orc_columns.specs.declared.fault.ColumnFault.TheVariants.{BadEncoding, Run, NegativeLength, LengthsPastData, IndexOutOfDictionary, Read, NoMemory}
 use Rattle.orc_columns.specs.declared.plan.ColumnPlan.{ColumnPlan}
@@ -157,12 +159,22 @@ found_is plan first last rows (Err fault) found streams is judges tells = absurd
 found_is plan first last rows (Ok other) found streams is judges tells =
     let same : other ≡ found = cc in subst (λ (o : Option ColumnFault). Finds plan rows streams o) same (judges.told streams tells)
 
-lengths_words : {version : Version} {stream : List ℕ} {limit count : ℕ} (fault : ColumnFault) → LengthsFail version stream limit count fault → HasColumnWords fault
+-- neither a failed read nor want of memory
+abbrev IsOfColumn : ColumnFault → Type 0
+IsOfColumn BadEncoding = Unit {0}
+IsOfColumn (Run name fault) = Unit {0}
+IsOfColumn NegativeLength = Unit {0}
+IsOfColumn LengthsPastData = Unit {0}
+IsOfColumn IndexOutOfDictionary = Unit {0}
+IsOfColumn (Read failed) = ⊥
+IsOfColumn NoMemory = ⊥
+
+lengths_words : {version : Version} {stream : List ℕ} {limit count : ℕ} (fault : ColumnFault) → LengthsFail version stream limit count fault → IsOfColumn fault
 lengths_words fault (broken breaks) = tt
 lengths_words fault (negative numbers number len are contains is) = tt
 lengths_words fault (past lengths len are less) = tt
 
-values_words : {size count : ℕ} {streams : Streams} (s : Spelling) (fault : ColumnFault) → ValuesFail size streams count s fault → HasColumnWords fault
+values_words : {size count : ℕ} {streams : Streams} (s : Spelling) (fault : ColumnFault) → ValuesFail size streams count s fault → IsOfColumn fault
 values_words s fault (bits breaks) = tt
 values_words s fault (integers breaks) = tt
 values_words s fault (texts fails) = lengths_words fault fails
@@ -171,7 +183,23 @@ values_words s fault (places lens len are breaks) = tt
 values_words s fault (index lens numbers place len are count are_numbers contains above) = tt
 
 -- a column's fault has words
-pub fault_words : {plan : ColumnPlan} {streams : Streams} {rows : ℕ} (fault : ColumnFault) → Fails plan streams rows fault → HasColumnWords fault
-fault_words fault (bad_encoding none) = tt
-fault_words fault (bad_nulls spelling spelled breaks) = tt
-fault_words fault (bad_values spelling flags spelled len are fails) = values_words spelling fault fails
+of_column : {plan : ColumnPlan} {streams : Streams} {rows : ℕ} (fault : ColumnFault) → Fails plan streams rows fault → IsOfColumn fault
+of_column fault (bad_encoding none) = tt
+of_column fault (bad_nulls spelling spelled breaks) = tt
+of_column fault (bad_values spelling flags spelled len are fails) = values_words spelling fault fails
+
+has_words : (fault : ColumnFault) → IsOfColumn fault → HoldsNoRead fault → HasColumnWords fault
+has_words BadEncoding is no_read = tt
+has_words (Run name run.StreamEnds) is no_read = tt
+has_words (Run name run.LongVarint) is no_read = tt
+has_words (Run name run.PatchOutOfRun) is no_read = tt
+has_words (Run name run.PatchTooWide) is no_read = tt
+has_words (Run name (run.Read failed)) is no_read = absurd no_read
+has_words NegativeLength is no_read = tt
+has_words LengthsPastData is no_read = tt
+has_words IndexOutOfDictionary is no_read = tt
+has_words (Read failed) is no_read = absurd is
+has_words NoMemory is no_read = absurd is
+
+pub fault_words : {plan : ColumnPlan} {streams : Streams} {rows : ℕ} (fault : ColumnFault) → Fails plan streams rows fault → HoldsNoRead fault → HasColumnWords fault
+fault_words fault fails no_read = has_words fault (of_column fault fails) no_read

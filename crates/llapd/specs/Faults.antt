@@ -64,10 +64,18 @@ column_words column.IndexOutOfDictionary = codes "index"
 column_words (column.Read failed) = []
 column_words column.NoMemory = []
 
+-- a run's fault has words
+abbrev pub HasRunWords : RunFault → Type 0
+HasRunWords run.StreamEnds = Unit {0}
+HasRunWords run.LongVarint = Unit {0}
+HasRunWords run.PatchOutOfRun = Unit {0}
+HasRunWords run.PatchTooWide = Unit {0}
+HasRunWords (run.Read failed) = ⊥
+
 -- the fault has words
 abbrev pub HasColumnWords : ColumnFault → Type 0
 HasColumnWords column.BadEncoding = Unit {0}
-HasColumnWords (column.Run name fault) = Unit {0}
+HasColumnWords (column.Run name fault) = HasRunWords fault
 HasColumnWords column.NegativeLength = Unit {0}
 HasColumnWords column.LengthsPastData = Unit {0}
 HasColumnWords column.IndexOutOfDictionary = Unit {0}

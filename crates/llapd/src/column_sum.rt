@@ -2,6 +2,7 @@
 ghost use Rattle.std.specs.Prelude.{◌≡◌, ◌≢◌, ◌<◌, ◌≤◌, ◌+◌, ◌*◌, ◌^◌, ℕ, true, List, [], Some, None, IsTrue, IfOk, IfSome, length, pos, neg_ℤ, ◌+ℤ◌, ◌≤ℤ◌, fold, FitsSigned};
 ghost use Rattle.std.specs.Int.{w128};
 ghost use Rattle.outside.specs.SliceFeed.{rest_of};
+ghost use Rattle.orc_columns.specs.Batches.{HoldsNoRead};
 ghost use Rattle.orc_columns.specs.Column.{Streams, Fails};
 ghost use Rattle.orc_columns.specs.Draws.{Tells};
 ghost use Rattle.orc_columns.specs.declared.fault.ColumnFault.TheVariants.{NoMemory as RefusedMemory};
@@ -191,7 +192,8 @@ pub fn fault_of_column(
     body: &[u8],
 ) -> Result<ColumnFault, NoMemory>
     requires { FailsWithin (plan_of_numbers kind encoding (length body.now)) (numbers_streams present.now body.now) rows }
-    ensures { IfOk result (λ fault. Fails (plan_of_numbers kind encoding (length body.now)) (numbers_streams present.now body.now) rows fault) }
+    ensures fails { IfOk result (λ fault. Fails (plan_of_numbers kind encoding (length body.now)) (numbers_streams present.now body.now) rows fault) }
+    ensures no_read { IfOk result HoldsNoRead }
 {
     let plan = numbers_plan(kind, encoding, body.len());
     let mut feed = feed_of(alloc, present, body)?;

@@ -3,8 +3,8 @@ use Rattle.llapd.specs.Sum.{numbers_plan, numbers_streams}
 use Rattle.llapd.proofs.ColumnReading.{numbers_told, found_is, not_whole}
 use Rattle.llapd.proofs.column_sum.fault_of_column.Goals as goal
 
-pub returns-in-Ok-Some : goal.returns-in-Ok-Some
-returns-in-Ok-Some c =
+pub returns-in-Ok-Some-clause-fails : goal.returns-in-Ok-Some-clause-fails
+returns-in-Ok-Some-clause-fails c =
     let judges = rw c.numbers_plan-plan.ensures at c.first_fault.ensures in
     found_is (numbers_plan c.args.kind c.args.encoding (length c.args.body.now)) c.in_ok-feed.feed c.first_fault.new.feed c.args.rows c.first_fault.result (Some c.in-Ok-Some.fault) (numbers_streams c.args.present.now c.args.body.now)
     (c.in-Ok-Some.is ∙ ap Ok c.in-Ok-Some.field-0-is) judges (numbers_told c.args.kind c.args.encoding (length c.args.body.now) c.in_ok-feed.feed c.args.present.now c.args.body.now c.in_ok-feed.ensures)
