@@ -9,7 +9,11 @@ ghost use Rattle.orc_values.specs.Texts.{texts_from, AreEnds, slices, running_en
 pub fn count_present(present: &[bool]) -> usize
     ensures { result ≡ present_count present.now }
 {
-    present.iter().filter(|p| **p).count()
+    let mut count = 0;
+    for flag in present {
+        count += usize::from(*flag);
+    }
+    count
 }
 
 /// Moves values that stand close together to their rows, in place.

@@ -1,6 +1,13 @@
-use Rattle.std.proofs.Common.{rules}
-use Rattle.orc_values.proofs.Counts.{count_by-present}
+use Rattle.std.proofs.Common.{rules, arith, ◌<◌, length}
+use Rattle.orc_values.proofs.Spreads.{count_more}
 use Rattle.orc_values.proofs.rows.count_present.Goals as goal
 
-pub returns : goal.returns
-returns c = rw count_by-present (search rules)
+pub loop-flag-preserved : goal.loop-flag-preserved
+loop-flag-preserved c =
+    let l = c.loop-flag in
+    let h : l.flag-index < length c.args.present.now = search rules in
+    let more = count_more c.args.present.now l.flag-index h in
+    record {
+      few = search rules;
+      counted = grind (arith, more, c.from-count.ensures, l.invariant.counted);
+    }
