@@ -1,5 +1,6 @@
 pub mod Exactly
 pub mod Forms
+pub mod Groups
 pub mod Headers
 pub mod InPlace
 pub mod Lengths

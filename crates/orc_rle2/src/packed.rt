@@ -33,7 +33,7 @@ fn word_at(bytes: &[u8], at: usize) -> u64
 {
     match bytes[at..].split_first_chunk::<8>() {
         Some((word, _)) => u64::from_be_bytes(*word),
-        None => 0,
+        None => unreachable!(),
     }
 }
 
@@ -50,9 +50,25 @@ fn value_at(bytes: &[u8], width: u32, mask: u64, index: usize) -> u64
     (word_at(bytes, place as usize / 8) >> behind) & mask
 }
 
+/// The number at a place in a group of eight.
+#[inline(always)]
+fn value_in(bytes: &[u8], width: u32, mask: u64, group: usize, place: u32) -> u64
+    requires width { IsWidth width }
+    requires mask { mask ≡ 2 ^ width - 1 }
+    requires few { group < 64 }
+    requires within { place < 8 }
+    requires room { width * (8 * group + place) / 8 + 8 ≤ length bytes.now }
+    ensures { result ≡ bits_to bytes.now width (width * (8 * group + place + 1)) }
+{
+    let bits = width * place;
+    let at = width as usize * group + bits as usize / 8;
+    (word_at(bytes, at) >> (64 - (bits % 8 + width))) & mask
+}
+
 /// Unpacks numbers of this width, and writes the values that they stand for to `into`, which says how many.
 ///
 /// Eight bytes stand behind those that are read, so that each number is read as a part of eight bytes.
+#[inline(always)]
 fn unpack(bytes: &[u8], width: u32, signed: bool, into: &mut [i64])
     requires width { IsWidth width }
     requires few { length into.old ≤ 512 }
@@ -60,8 +76,61 @@ fn unpack(bytes: &[u8], width: u32, signed: bool, into: &mut [i64])
     ensures { into.new ≡ map (integer signed) (unpacked width (length into.old) bytes.now) }
 {
     let mask = low_bits(width);
-    for (i, value) in into.iter_mut().enumerate() {
-        *value = bits_of(signed, value_at(bytes, width, mask, i)).cast_signed();
+    let groups = into.len() / 8;
+    for group in 0..groups {
+        for place in 0..8u32 {
+            into[8 * group + place as usize] = bits_of(
+                signed,
+                value_in(bytes, width, mask, group, place),
+            ).cast_signed();
+        }
+    }
+    for i in 8 * groups..into.len() {
+        into[i] = bits_of(signed, value_at(bytes, width, mask, i)).cast_signed();
+    }
+}
+
+/// Unpacks as `unpack` does, by code of its own for each width.
+fn unpack_by_width(bytes: &[u8], width: u32, signed: bool, into: &mut [i64])
+    requires width { IsWidth width }
+    requires few { length into.old ≤ 512 }
+    requires room { packed_len width (length into.old) + 8 ≤ length bytes.now }
+    ensures { into.new ≡ map (integer signed) (unpacked width (length into.old) bytes.now) }
+{
+    match width {
+        1 => unpack(bytes, 1, signed, into),
+        2 => unpack(bytes, 2, signed, into),
+        3 => unpack(bytes, 3, signed, into),
+        4 => unpack(bytes, 4, signed, into),
+        5 => unpack(bytes, 5, signed, into),
+        6 => unpack(bytes, 6, signed, into),
+        7 => unpack(bytes, 7, signed, into),
+        8 => unpack(bytes, 8, signed, into),
+        9 => unpack(bytes, 9, signed, into),
+        10 => unpack(bytes, 10, signed, into),
+        11 => unpack(bytes, 11, signed, into),
+        12 => unpack(bytes, 12, signed, into),
+        13 => unpack(bytes, 13, signed, into),
+        14 => unpack(bytes, 14, signed, into),
+        15 => unpack(bytes, 15, signed, into),
+        16 => unpack(bytes, 16, signed, into),
+        17 => unpack(bytes, 17, signed, into),
+        18 => unpack(bytes, 18, signed, into),
+        19 => unpack(bytes, 19, signed, into),
+        20 => unpack(bytes, 20, signed, into),
+        21 => unpack(bytes, 21, signed, into),
+        22 => unpack(bytes, 22, signed, into),
+        23 => unpack(bytes, 23, signed, into),
+        24 => unpack(bytes, 24, signed, into),
+        26 => unpack(bytes, 26, signed, into),
+        28 => unpack(bytes, 28, signed, into),
+        30 => unpack(bytes, 30, signed, into),
+        32 => unpack(bytes, 32, signed, into),
+        40 => unpack(bytes, 40, signed, into),
+        48 => unpack(bytes, 48, signed, into),
+        56 => unpack(bytes, 56, signed, into),
+        64 => unpack(bytes, 64, signed, into),
+        _ => unpack(bytes, width, signed, into),
     }
 }
 
@@ -117,6 +186,6 @@ fn take_within<F: Feed, const ROOM: usize>(
     let len = (width as usize * into.len()).div_ceil(8);
     let (bytes, _) = buffer.split_at_mut(len);
     take_exactly(feed, stream, bytes)?;
-    unpack(&buffer, width, signed, into);
+    unpack_by_width(&buffer, width, signed, into);
     Ok(())
 }

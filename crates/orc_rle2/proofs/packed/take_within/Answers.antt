@@ -22,7 +22,7 @@ returns-clause-values g c =
     let one = rw len at c.in_ok-take_exactly.ensures in
     let are : Bytes back = subst (λ (l : List ℕ). Bytes l) (sym c.split_at_mut-bytes.ensures.back) (Bytes-behind _ c.div_ceil-len.result (Bytes-none _)) in
     let room : a.width * count ≤ 8 * length body = omega (arith, len, c.take_exactly.auto.into) in
-    let is : c.unpack.new.into ≡ map (integer a.signed) (unpacked a.width count body) = c.unpack.ensures ∙ ap (map (integer a.signed)) (unpacked-front a.width count body back are room) in
+    let is : c.unpack_by_width.new.into ≡ map (integer a.signed) (unpacked a.width count body) = c.unpack_by_width.ensures ∙ ap (map (integer a.signed)) (unpacked-front a.width count body back are room) in
     rw is (Reads-map f.rest f.fed f.fault_count a.stream law.fed_nothing law.fed_joined a.feed.now last (packed a.width count) (map (integer a.signed)) (unpacked a.width count body)
     (Reads-map f.rest f.fed f.fault_count a.stream law.fed_nothing law.fed_joined a.feed.now last (exactly (packed_len a.width count)) (unpacked a.width count) body one))
 
@@ -38,6 +38,6 @@ returns-clause-bits g c unsigned =
     let one = rw len at c.in_ok-take_exactly.ensures in
     let are : Bytes back = subst (λ (l : List ℕ). Bytes l) (sym c.split_at_mut-bytes.ensures.back) (Bytes-behind _ c.div_ceil-len.result (Bytes-none _)) in
     let room : a.width * count ≤ 8 * length body = omega (arith, len, c.take_exactly.auto.into) in
-    let is : bits_in c.unpack.new.into ≡ unpacked a.width count body =
-    ap bits_in (c.unpack.ensures ∙ ap (map (integer a.signed)) (unpacked-front a.width count body back are room)) ∙ ap (λ (s : Bool). bits_in (map (integer s) (unpacked a.width count body))) unsigned ∙ unpacked-bits a.width count body c.requires.width.most in
+    let is : bits_in c.unpack_by_width.new.into ≡ unpacked a.width count body =
+    ap bits_in (c.unpack_by_width.ensures ∙ ap (map (integer a.signed)) (unpacked-front a.width count body back are room)) ∙ ap (λ (s : Bool). bits_in (map (integer s) (unpacked a.width count body))) unsigned ∙ unpacked-bits a.width count body c.requires.width.most in
     rw is (Reads-map f.rest f.fed f.fault_count a.stream law.fed_nothing law.fed_joined a.feed.now c.take_exactly.new.feed (exactly (packed_len a.width count)) (unpacked a.width count) body one)

@@ -3,5 +3,11 @@ use Rattle.orc_integers.specs.Integers.{integer}
 use Rattle.orc_rle2.specs.Packed.{bits_to}
 use Rattle.orc_rle2.proofs.packed.unpack.Given as goal
 
+abbrev pub invariant-loop-group : goal.invariant-loop-group
+invariant-loop-group l = (k : ℕ) → k < 8 * l.group → get_or l.into k (pos 0) ≡ integer l.signed (bits_to l.bytes l.width (l.width * (k + 1)))
+
+abbrev pub invariant-loop-place : goal.invariant-loop-place
+invariant-loop-place l = (k : ℕ) → k < 8 * l.group + l.place → get_or l.into k (pos 0) ≡ integer l.signed (bits_to l.bytes l.width (l.width * (k + 1)))
+
 abbrev pub invariant-loop-i : goal.invariant-loop-i
 invariant-loop-i l = (k : ℕ) → k < l.i → get_or l.into k (pos 0) ≡ integer l.signed (bits_to l.bytes l.width (l.width * (k + 1)))
