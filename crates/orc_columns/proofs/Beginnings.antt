@@ -1,6 +1,6 @@
 -- A reader before the first row.
-use Rattle.std.proofs.Common.{◌≡◌, ℕ, true, false, List, [], ◌∷◌, length, Option, Some, None, refl, sym, ◌∙◌, subst, arith}
-use Rattle.outside.specs.Runs.{Between}
+use Rattle.std.proofs.Common.{◌≡◌, ℕ, true, false, List, [], ◌∷◌, length, map, pos, Option, Some, None, refl, sym, ◌∙◌, subst, arith}
+use Rattle.outside.specs.Runs.{Between, Spells}
 use Rattle.outside.proofs.Runs.{Between-start}
 use Rattle.orc_rle.specs.BitRun.{BitRun}
 use Rattle.orc_columns.specs.declared.fault.ColumnFault.{ColumnFault}
@@ -22,13 +22,13 @@ nothing_read : {V : Type 0} (Run : List ℕ → List V → Type 0) (start rest :
 nothing_read {V} Run start rest held none same = rw (none, same) (Between-start Run start)
 
 pub bits_begin : (size : ℕ) (s : Streams) (b : BitsOf) → b.held ≡ [] → ValuesBegin size s s (reader.Bits b)
-bits_begin size s b none = (refl, ([], nothing_read BitRun s.body s.body b.held none refl, refl))
+bits_begin size s b none = (refl, ([], nothing_read BitRun s.body s.body b.held none refl, refl, (refl, refl)))
 
 pub numbers_begin : (size : ℕ) (s : Streams) (i : IntegersOf) → i.held ≡ [] → ValuesBegin size s s (reader.Integers i)
-numbers_begin size s i none = (refl, ([], nothing_read (IntRun i.version true) s.body s.body i.held none refl, refl))
+numbers_begin size s i none = (refl, ([], nothing_read (IntRun i.version true) s.body s.body i.held none refl, refl, (refl, refl)))
 
 pub texts_begin : (size : ℕ) (s : Streams) (i : IntegersOf) (body : Option ℕ) (left : ℕ) → i.held ≡ [] → left ≡ length s.body → ValuesBegin size s s (reader.Texts (record { lengths = i; «data» = body; left = left }))
-texts_begin size s i body left none len = (refl, ([], nothing_read (IntRun i.version false) s.lengths s.lengths i.held none refl, omega arith, refl, refl))
+texts_begin size s i body left none len = (refl, ([], nothing_read (IntRun i.version false) s.lengths s.lengths i.held none refl, omega arith, refl, refl, refl))
 
 pub dictionary_begins : (size : ℕ) (b a : Streams) (i : IntegersOf) (version : Version) (texts : List (List ℕ)) → i.held ≡ [] → i.version ≡ version → EntriesRead version size b a texts → ValuesBegin size b a (reader.Dictionary (record { entries = texts; places = i }))
 dictionary_begins size b a i version texts none of_version read = (
@@ -42,6 +42,8 @@ dictionary_begins size b a i version texts none of_version read = (
     nothing_read (IntRun i.version false) b.body a.body i.held none read.body,
     (λ k d h. absurd (omega arith)),
     refl,
+    subst (λ (v : Version). Spells (IntRun v false) b.lengths (map pos read.lengths) a.lengths) (sym of_version) read.used,
+    read.left,
   ),
 )
 

@@ -52,7 +52,7 @@ numbers_go size n flags old new b a entries typed signed version counted within 
           let old_at : Between (IntRun old.version old.signed) start.body at.0 old.held b.body = subst (λ (s : Bool). Between (IntRun old.version s) start.body at.0 old.held b.body) (sym signed) at.1 in
           let new_at : Between (IntRun old.version old.signed) start.body (at.0 ++ numbers) new.held a.body = on.1 start.body at.0 old_at in
           let as_signed : Between (IntRun old.version true) start.body (at.0 ++ numbers) new.held a.body = subst (λ (s : Bool). Between (IntRun old.version s) start.body (at.0 ++ numbers) new.held a.body) signed new_at in
-          (at.0 ++ numbers, subst (λ (v : Version). Between (IntRun v true) start.body (at.0 ++ numbers) new.held a.body) (sym version) as_signed, rw at.2 (sym (map-append kind at.0 numbers)));
+          (at.0 ++ numbers, subst (λ (v : Version). Between (IntRun v true) start.body (at.0 ++ numbers) new.held a.body) (sym version) as_signed, rw at.2 (sym (map-append kind at.0 numbers)), (on.0.1 ∙ at.3.0, on.0.2 ∙ at.3.1));
     }
 
 pub numbers_break : (size n : ℕ) (flags : List Bool) (old : IntegersOf) (b : Streams) (fault : ColumnFault) → old.signed ≡ true → n ≡ present_count flags → NumbersBreak old n b fault → ValuesBreak size (present_count flags) (reader.Integers old) b fault
@@ -77,7 +77,7 @@ bits_go size n flags old new b a entries typed counted within rows on =
       present = on.0.0;
       enough = length-map some kind ∙ length-take-le n entries within ∙ counted;
       rows_are = rows ∙ dense_rows kind flags some;
-      goes = λ start given at. (at.0 ++ some, on.1 start.body at.0 at.1, rw at.2 (sym (map-append kind at.0 some)));
+      goes = λ start given at. (at.0 ++ some, on.1 start.body at.0 at.1, rw at.2 (sym (map-append kind at.0 some)), (on.0.1 ∙ at.3.0, on.0.2 ∙ at.3.1));
     }
 
 pub bits_break : (size n : ℕ) (flags : List Bool) (old : BitsOf) (b : Streams) (fault : ColumnFault) → n ≡ present_count flags → BitsBreak old n b fault → ValuesBreak size (present_count flags) (reader.Bits old) b fault

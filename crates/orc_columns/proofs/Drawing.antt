@@ -17,7 +17,9 @@ use Rattle.orc_columns.specs.Column.{Streams}
 use Rattle.orc_columns.specs.Draws.{IsOfPlan, AllOfPlan, Differ, StreamsDiffer, Tells, IsReadError, FailedToRead, Decided, Said, Draws, of_run, in_stream, OnlyPresent, OnlyBody, OnlyLengths, GoesOn, BreaksOn}
 use Rattle.orc_columns.specs.Decoders.{PresentOf}
 use Rattle.orc_columns.specs.Optional.{rest_in, AllIn, FillsIn}
+use Rattle.orc_columns.specs.Turns.{InTurn, alone}
 use Rattle.orc_columns.specs.Present.{PresentBetween, PresentBreaksWith, PresentContinues, PresentFills, PresentGoesOn, PresentBreaksOn}
+use Rattle.orc_columns.proofs.Turns.{InTurn-none, InTurn-alone, InTurn-joined, InTurn-front, alone-twice}
 
 -- ---- the streams of a plan
 
@@ -85,21 +87,23 @@ module _ {F : Type 0} (rest : F → ℕ → Option (List ℕ)) (fed : F → List
 
   module _ (nothing : (feed : F) → fed feed [] feed) (joined : (first between last : F) (xs ys : List Taken) → fed first xs between → fed between ys last → fed first (xs ++ ys) last) where
     -- nothing was done
-    pub Draws-done : {Y : Type 0} (feed : F) (Goes : Streams → Streams → Y → Type 0) (Faults : Streams → ColumnFault → Type 0) (y : Y) → ((s : Streams) → Tells rest feed plan s → Goes s s y) → Draws rest fed count plan feed feed Goes Faults (Ok y)
-    Draws-done feed Goes Faults y goes = record {
+    pub Draws-done : {Y : Type 0} {turns : List (Option ℕ)} (feed : F) (Goes : Streams → Streams → Y → Type 0) (Faults : Streams → ColumnFault → Type 0) (y : Y) → ((s : Streams) → Tells rest feed plan s → Goes s s y) → Draws rest fed count plan turns feed feed Goes Faults (Ok y)
+    Draws-done {turns} feed Goes Faults y goes = record {
       takes = [];
       led = nothing feed;
       own = tt;
+      turns = InTurn-none turns;
       cause = record { later = omega arith; failed = λ f. absurd f };
       told = λ before tells. (before, tells, goes before tells);
     }
 
     -- nothing was done but to refuse
-    pub Draws-refused : {Y : Type 0} (feed : F) (Goes : Streams → Streams → Y → Type 0) (Faults : Streams → ColumnFault → Type 0) (fault : ColumnFault) → (IsReadError fault → ⊥) → ((s : Streams) → Tells rest feed plan s → Decided (Faults s) fault) → Draws rest fed count plan feed feed Goes Faults (Err fault)
-    Draws-refused feed Goes Faults fault no_read faults = record {
+    pub Draws-refused : {Y : Type 0} {turns : List (Option ℕ)} (feed : F) (Goes : Streams → Streams → Y → Type 0) (Faults : Streams → ColumnFault → Type 0) (fault : ColumnFault) → (IsReadError fault → ⊥) → ((s : Streams) → Tells rest feed plan s → Decided (Faults s) fault) → Draws rest fed count plan turns feed feed Goes Faults (Err fault)
+    Draws-refused {turns} feed Goes Faults fault no_read faults = record {
       takes = [];
       led = nothing feed;
       own = tt;
+      turns = InTurn-none turns;
       cause = record { later = omega arith; failed = λ f. absurd (no_read f) };
       told = faults;
     }
@@ -113,13 +117,14 @@ module _ {F : Type 0} (rest : F → ℕ → Option (List ℕ)) (fed : F → List
     Said-then between last Goes More Breaks' before x (Err fault) (m, tells, goes) next = Decided-map (Breaks' m) (λ f. (m : Streams) × Goes before m x × Breaks' m f) (λ f b. (m, goes, b)) fault (next m tells)
 
     -- one call, and then another
-    pub Draws-then : {X Y : Type 0} (first between last : F) (Goes : Streams → Streams → X → Type 0) (More : Streams → Streams → Y → Type 0) (Faults Faults' : Streams → ColumnFault → Type 0) (x : X) (answer : Result Y ColumnFault)
-        → Draws rest fed count plan first between Goes Faults (Ok x) → Draws rest fed count plan between last More Faults' answer
-        → Draws rest fed count plan first last (λ b a y. (m : Streams) × Goes b m x × More m a y) (λ b f. (m : Streams) × Goes b m x × Faults' m f) answer
-    Draws-then first between last Goes More Faults Faults' x answer one two = record {
+    pub Draws-then : {X Y : Type 0} {some others : List (Option ℕ)} (first between last : F) (Goes : Streams → Streams → X → Type 0) (More : Streams → Streams → Y → Type 0) (Faults Faults' : Streams → ColumnFault → Type 0) (x : X) (answer : Result Y ColumnFault)
+        → Draws rest fed count plan some first between Goes Faults (Ok x) → Draws rest fed count plan others between last More Faults' answer
+        → Draws rest fed count plan (some ++ others) first last (λ b a y. (m : Streams) × Goes b m x × More m a y) (λ b f. (m : Streams) × Goes b m x × Faults' m f) answer
+    Draws-then {some} {others} first between last Goes More Faults Faults' x answer one two = record {
       takes = one.takes ++ two.takes;
       led = joined first between last one.takes two.takes one.led two.led;
       own = all_joined plan one.takes two.takes one.own two.own;
+      turns = InTurn-joined some others one.takes two.takes one.turns two.turns;
       cause = record { later = omega (arith, one.cause.later, two.cause.later); failed = λ f. rose (two.cause.failed f) };
       told = λ before tells. Said-then between last Goes More Faults' before x answer (one.told before tells) two.told;
     }
@@ -129,36 +134,54 @@ module _ {F : Type 0} (rest : F → ℕ → Option (List ℕ)) (fed : F → List
         rose (inr most) = inr most
 
     -- the same said in other words
-    pub Draws-ok : {X Y : Type 0} (first last : F) (Goes : Streams → Streams → X → Type 0) (Other : Streams → Streams → Y → Type 0) (Faults Faults' : Streams → ColumnFault → Type 0) (x : X) (y : Y)
-        → ((b a : Streams) → Tells rest first plan b → Goes b a x → Other b a y) → Draws rest fed count plan first last Goes Faults (Ok x) → Draws rest fed count plan first last Other Faults' (Ok y)
+    pub Draws-ok : {X Y : Type 0} {turns : List (Option ℕ)} (first last : F) (Goes : Streams → Streams → X → Type 0) (Other : Streams → Streams → Y → Type 0) (Faults Faults' : Streams → ColumnFault → Type 0) (x : X) (y : Y)
+        → ((b a : Streams) → Tells rest first plan b → Goes b a x → Other b a y) → Draws rest fed count plan turns first last Goes Faults (Ok x) → Draws rest fed count plan turns first last Other Faults' (Ok y)
     Draws-ok first last Goes Other Faults Faults' x y goes d = record {
       takes = d.takes;
       led = d.led;
       own = d.own;
+      turns = d.turns;
       cause = record { later = d.cause.later; failed = λ f. absurd f };
       told = λ before tells. let on = d.told before tells in (on.0, on.1, goes before on.0 tells on.2);
     }
 
-    pub Draws-fault : {X Y : Type 0} (first last : F) (Goes : Streams → Streams → X → Type 0) (Other : Streams → Streams → Y → Type 0) (Faults Faults' : Streams → ColumnFault → Type 0) (fault : ColumnFault)
-        → ((b : Streams) (f : ColumnFault) → Tells rest first plan b → Faults b f → Faults' b f) → Draws {Y = X} rest fed count plan first last Goes Faults (Err fault) → Draws {Y = Y} rest fed count plan first last Other Faults' (Err fault)
+    pub Draws-fault : {X Y : Type 0} {turns : List (Option ℕ)} (first last : F) (Goes : Streams → Streams → X → Type 0) (Other : Streams → Streams → Y → Type 0) (Faults Faults' : Streams → ColumnFault → Type 0) (fault : ColumnFault)
+        → ((b : Streams) (f : ColumnFault) → Tells rest first plan b → Faults b f → Faults' b f) → Draws {Y = X} rest fed count plan turns first last Goes Faults (Err fault) → Draws {Y = Y} rest fed count plan turns first last Other Faults' (Err fault)
     Draws-fault first last Goes Other Faults Faults' fault faults d = record {
       takes = d.takes;
       led = d.led;
       own = d.own;
+      turns = d.turns;
       cause = d.cause;
       told = λ before tells. Decided-map (Faults before) (Faults' before) (λ f. faults before f tells) fault (d.told before tells);
     }
 
     -- a fault that isn't the feed's is decided, or for want of memory
-    pub Draws-stops : {X Y : Type 0} (first last : F) (Goes : Streams → Streams → X → Type 0) (Other : Streams → Streams → Y → Type 0) (Faults Faults' : Streams → ColumnFault → Type 0) (x : X) (fault : ColumnFault)
-        → (IsReadError fault → ⊥) → ((b a : Streams) → Tells rest first plan b → Goes b a x → Decided (Faults' b) fault) → Draws rest fed count plan first last Goes Faults (Ok x) → Draws rest fed count plan first last Other Faults' (Err fault)
+    pub Draws-stops : {X Y : Type 0} {turns : List (Option ℕ)} (first last : F) (Goes : Streams → Streams → X → Type 0) (Other : Streams → Streams → Y → Type 0) (Faults Faults' : Streams → ColumnFault → Type 0) (x : X) (fault : ColumnFault)
+        → (IsReadError fault → ⊥) → ((b a : Streams) → Tells rest first plan b → Goes b a x → Decided (Faults' b) fault) → Draws rest fed count plan turns first last Goes Faults (Ok x) → Draws rest fed count plan turns first last Other Faults' (Err fault)
     Draws-stops first last Goes Other Faults Faults' x fault no_read faults d = record {
       takes = d.takes;
       led = d.led;
       own = d.own;
+      turns = d.turns;
       cause = record { later = d.cause.later; failed = λ f. absurd (no_read f) };
       told = λ before tells. let on = d.told before tells in faults before on.0 tells on.2;
     }
+
+    -- the same takes, said to be of other streams
+    Draws-turns : {Y : Type 0} {turns others : List (Option ℕ)} (first last : F) (Goes : Streams → Streams → Y → Type 0) (Faults : Streams → ColumnFault → Type 0) (answer : Result Y ColumnFault)
+        → ((takes : List Taken) → InTurn turns takes → InTurn others takes) → Draws rest fed count plan turns first last Goes Faults answer → Draws rest fed count plan others first last Goes Faults answer
+    Draws-turns first last Goes Faults answer turn d = record { takes = d.takes; led = d.led; own = d.own; turns = turn d.takes d.turns; cause = d.cause; told = d.told }
+
+    -- of the streams behind nothing was taken
+    pub Draws-front : {Y : Type 0} {turns : List (Option ℕ)} (others : List (Option ℕ)) (first last : F) (Goes : Streams → Streams → Y → Type 0) (Faults : Streams → ColumnFault → Type 0) (answer : Result Y ColumnFault)
+        → Draws rest fed count plan turns first last Goes Faults answer → Draws rest fed count plan (turns ++ others) first last Goes Faults answer
+    Draws-front {turns = turns} others first last Goes Faults answer d = Draws-turns first last Goes Faults answer (λ takes a. InTurn-front turns others takes a) d
+
+    -- a stream, and then the same stream
+    pub Draws-again : {Y : Type 0} (stream : Option ℕ) (first last : F) (Goes : Streams → Streams → Y → Type 0) (Faults : Streams → ColumnFault → Type 0) (answer : Result Y ColumnFault)
+        → Draws rest fed count plan (stream ∷ alone stream) first last Goes Faults answer → Draws rest fed count plan (alone stream) first last Goes Faults answer
+    Draws-again stream first last Goes Faults answer d = Draws-turns first last Goes Faults answer (λ takes a. alone-twice stream takes a) d
 
     -- ---- a decoder's step
 
@@ -176,11 +199,12 @@ module _ {F : Type 0} (rest : F → ℕ → Option (List ℕ)) (fed : F → List
       failed_in which (Err fault) f = read_is which fault f
 
       pub body_draws : {V : Type 0} (Form : List ℕ → List V → Type 0) (read : Reader (List V)) (first last : F) (old new : List V) (asked : ℕ) (answer : Result (List V) RunFault) → FillsIn rest fed count Form read plan.body first last old new asked answer
-          → Draws rest fed count plan first last (λ b a values. OnlyBody b a × GoesOn Form old new b.body a.body values) (λ b fault. BreaksOn Form read name.Body old asked b.body fault) (in_stream name.Body answer)
+          → Draws rest fed count plan (alone plan.body) first last (λ b a values. OnlyBody b a × GoesOn Form old new b.body a.body values) (λ b fault. BreaksOn Form read name.Body old asked b.body fault) (in_stream name.Body answer)
       body_draws {V} Form read first last old new asked answer filled = record {
         takes = filled.takes;
         led = filled.led;
         own = all_in plan plan.body filled.takes (λ stream is. inr (inl is)) filled.own;
+        turns = InTurn-alone plan.body filled.takes filled.own;
         cause = record { later = filled.cause.later; failed = λ f. filled.cause.failed (failed_in name.Body answer f) };
         told = λ before tells. said before tells answer (filled.told before.body tells.body);
       }
@@ -200,11 +224,12 @@ module _ {F : Type 0} (rest : F → ℕ → Option (List ℕ)) (fed : F → List
           said before tells (Err fault) breaks = broken_in Form read name.Body old asked before.body fault breaks
 
       pub length_draws : {V : Type 0} (Form : List ℕ → List V → Type 0) (read : Reader (List V)) (first last : F) (old new : List V) (asked : ℕ) (answer : Result (List V) RunFault) → FillsIn rest fed count Form read plan.length first last old new asked answer
-          → Draws rest fed count plan first last (λ b a values. OnlyLengths b a × GoesOn Form old new b.lengths a.lengths values) (λ b fault. BreaksOn Form read name.Length old asked b.lengths fault) (in_stream name.Length answer)
+          → Draws rest fed count plan (alone plan.length) first last (λ b a values. OnlyLengths b a × GoesOn Form old new b.lengths a.lengths values) (λ b fault. BreaksOn Form read name.Length old asked b.lengths fault) (in_stream name.Length answer)
       length_draws {V} Form read first last old new asked answer filled = record {
         takes = filled.takes;
         led = filled.led;
         own = all_in plan plan.length filled.takes (λ stream is. inr (inr (inl is))) filled.own;
+        turns = InTurn-alone plan.length filled.takes filled.own;
         cause = record { later = filled.cause.later; failed = λ f. filled.cause.failed (failed_in name.Length answer f) };
         told = λ before tells. said before tells answer (filled.told before.lengths tells.lengths);
       }
@@ -232,11 +257,12 @@ module _ {F : Type 0} (rest : F → ℕ → Option (List ℕ)) (fed : F → List
       present_broken old asked before run.PatchTooWide breaks = (run.PatchTooWide, refl, breaks)
 
       pub present_draws : (old new : PresentOf) (first last : F) (asked : ℕ) (answer : Result (List Bool) RunFault) → old.stream ≡ plan.present → PresentFills rest fed count old new first last asked answer
-          → Draws rest fed count plan first last (λ b a flags. OnlyPresent b a × PresentGoesOn old new b.present a.present flags) (λ b fault. PresentBreaksOn old asked b.present fault) (in_stream name.Present answer)
+          → Draws rest fed count plan (alone plan.present) first last (λ b a flags. OnlyPresent b a × PresentGoesOn old new b.present a.present flags) (λ b fault. PresentBreaksOn old asked b.present fault) (in_stream name.Present answer)
       present_draws old new first last asked answer stream_is filled = record {
         takes = filled.takes;
         led = filled.led;
         own = all_in plan plan.present filled.takes (λ stream is. inl is) own;
+        turns = InTurn-alone plan.present filled.takes own;
         cause = record { later = filled.cause.later; failed = λ f. filled.cause.failed (failed_in name.Present answer f) };
         told = λ before tells. said before tells answer (subst (λ (s : Option ℕ). PresentContinues old new asked before.present (rest_in rest last s) answer) stream_is (filled.told before.present (rw stream_is tells.present)));
       }

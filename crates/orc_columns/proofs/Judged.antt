@@ -1,5 +1,5 @@
 -- How a column is judged, stream by stream.
-use Rattle.std.proofs.Common.{◌≡◌, ℕ, ◌^◌, ◌<◌, ◌≤◌, Bool, true, false, List, [], ◌++◌, length, map, Option, Ok, Err, ℤ, pos, refl, sym, ◌∙◌, ap, subst, arith, All, Contains, sum, zero-add}
+use Rattle.std.proofs.Common.{◌≡◌, ℕ, ◌^◌, ◌<◌, ◌≤◌, Bool, true, false, List, [], ◌∷◌, ◌++◌, length, map, Option, Ok, Err, ℤ, pos, refl, sym, ◌∙◌, ap, subst, arith, All, Contains, sum, zero-add}
 use Rattle.std.specs.Prelude.{Result, FitsSigned}
 use Rattle.std.specs.Int.{w64, cast_unsigned}
 use Rattle.std.proofs.lemmas.List.{length-map}
@@ -26,8 +26,9 @@ use Rattle.orc_columns.specs.FirstFault.{Sized, JudgedLengths, JudgedValues}
 use Rattle.orc_columns.specs.Flags.{ReadsBits}
 use Rattle.orc_columns.specs.Numbers.{ReadsNumbers, bound_from}
 use Rattle.orc_columns.specs.Spelling.{IntRun, int_run}
-use Rattle.orc_columns.proofs.Drawing.{Draws-ok, Draws-fault, Draws-stops, Draws-then, body_draws, length_draws}
+use Rattle.orc_columns.proofs.Drawing.{Draws-ok, Draws-fault, Draws-stops, Draws-then, Draws-front, body_draws, length_draws}
 use Rattle.orc_columns.proofs.Summaries.{total_is, all_below, some_above, are_places, is_negative}
+use Rattle.orc_columns.specs.Turns.{alone}
 
 -- ---- from a stream's start
 
@@ -48,14 +49,14 @@ module _ {F : Type 0} (rest : F → ℕ → Option (List ℕ)) (fed : F → List
   -- ---- bits
 
   pub bits_judged : (first last : F) (held : List Bool) (size n : ℕ) → ReadsBits rest fed count plan.body first last [] held n {T = Unit {0}} (Ok tt)
-      → Draws {Y = Unit {0}} rest fed count plan first last (λ before after u. JudgedValues Bits size n before) (λ before fault. ValuesFail size before n Bits fault) (Ok tt)
+      → Draws {Y = Unit {0}} rest fed count plan (alone plan.body) first last (λ before after u. JudgedValues Bits size n before) (λ before fault. ValuesFail size before n Bits fault) (Ok tt)
   bits_judged first last held size n r =
       let drawn = body_draws rest fed count plan lost nothing joined differ BitRun bit_run first last [] held n (Ok r.bits) r.fills in
       Draws-ok rest fed count plan lost nothing joined first last _ _ _ _ r.bits tt
       (λ b a tells goes. (map (λ x. value.Bool x) r.bits, length-map r.bits (λ x. value.Bool x) ∙ r.all, (r.bits, a.body, spelled_from_start BitRun held b.body a.body r.bits goes.1, refl))) drawn
 
   pub bits_broken : (first last : F) (held : List Bool) (size n : ℕ) (fault : RunFault) → ReadsBits rest fed count plan.body first last [] held n {T = Unit {0}} (Err fault)
-      → Draws {Y = Unit {0}} rest fed count plan first last (λ before after u. JudgedValues Bits size n before) (λ before fault. ValuesFail size before n Bits fault) (Err (of_run name.Body fault))
+      → Draws {Y = Unit {0}} rest fed count plan (alone plan.body) first last (λ before after u. JudgedValues Bits size n before) (λ before fault. ValuesFail size before n Bits fault) (Err (of_run name.Body fault))
   bits_broken first last held size n fault r =
       let drawn = body_draws rest fed count plan lost nothing joined differ BitRun bit_run first last [] held n (Err fault) r.fills in
       Draws-fault rest fed count plan lost nothing joined first last _ _ _ _ (of_run name.Body fault)
@@ -66,7 +67,7 @@ module _ {F : Type 0} (rest : F → ℕ → Option (List ℕ)) (fed : F → List
   -- ---- integers
 
   pub integers_judged : (version : Version) (first last : F) (held : List ℤ) (size n : ℕ) (s : Summary) → ReadsNumbers rest fed count (IntRun version true) (int_run version true) plan.body first last [] held n (Ok s)
-      → Draws {Y = Unit {0}} rest fed count plan first last (λ before after u. JudgedValues (Integers version) size n before) (λ before fault. ValuesFail size before n (Integers version) fault) (Ok tt)
+      → Draws {Y = Unit {0}} rest fed count plan (alone plan.body) first last (λ before after u. JudgedValues (Integers version) size n before) (λ before fault. ValuesFail size before n (Integers version) fault) (Ok tt)
   integers_judged version first last held size n s r =
       let Form = IntRun version true in
       let drawn = body_draws rest fed count plan lost nothing joined differ Form (int_run version true) first last [] held n (Ok r.numbers) r.fills in
@@ -74,7 +75,7 @@ module _ {F : Type 0} (rest : F → ℕ → Option (List ℕ)) (fed : F → List
       (λ b a tells goes. (map (λ x. value.Int x) r.numbers, length-map r.numbers (λ x. value.Int x) ∙ r.summary.0, (r.numbers, (a.body, spelled_from_start Form held b.body a.body r.numbers goes.1), refl))) drawn
 
   pub integers_broken : (version : Version) (first last : F) (held : List ℤ) (size n : ℕ) (fault : RunFault) → ReadsNumbers rest fed count (IntRun version true) (int_run version true) plan.body first last [] held n (Err fault)
-      → Draws {Y = Unit {0}} rest fed count plan first last (λ before after u. JudgedValues (Integers version) size n before) (λ before fault. ValuesFail size before n (Integers version) fault) (Err (of_run name.Body fault))
+      → Draws {Y = Unit {0}} rest fed count plan (alone plan.body) first last (λ before after u. JudgedValues (Integers version) size n before) (λ before fault. ValuesFail size before n (Integers version) fault) (Err (of_run name.Body fault))
   integers_broken version first last held size n fault r =
       let Form = IntRun version true in
       let drawn = body_draws rest fed count plan lost nothing joined differ Form (int_run version true) first last [] held n (Err fault) r.fills in
@@ -90,7 +91,7 @@ module _ {F : Type 0} (rest : F → ℕ → Option (List ℕ)) (fed : F → List
     Form = IntRun version false
 
     abbrev Lengths : Result (Unit {0}) ColumnFault → Type 0
-    Lengths answer = Draws {Y = Unit {0}} rest fed count plan first last (λ before after u. JudgedLengths version limit n before after) (λ before fault. LengthsFail version before.lengths limit n fault) answer
+    Lengths answer = Draws {Y = Unit {0}} rest fed count plan (alone plan.length) first last (λ before after u. JudgedLengths version limit n before after) (λ before fault. LengthsFail version before.lengths limit n fault) answer
 
     pub lengths_broken : (fault : RunFault) → ReadsNumbers rest fed count Form (int_run version false) plan.length first last [] held n (Err fault) → Lengths (Err (of_run name.Length fault))
     lengths_broken fault r =
@@ -110,7 +111,7 @@ module _ {F : Type 0} (rest : F → ℕ → Option (List ℕ)) (fed : F → List
       length_places : length (places_of r.numbers) ≡ n
       length_places = length-map r.numbers (cast_unsigned w64) ∙ r.summary.0
 
-      drawn : Draws rest fed count plan first last (λ b a values. OnlyLengths b a × GoesOn Form [] held b.lengths a.lengths values) (λ b fault. BreaksOn Form (int_run version false) name.Length [] n b.lengths fault) (Ok r.numbers)
+      drawn : Draws rest fed count plan (alone plan.length) first last (λ b a values. OnlyLengths b a × GoesOn Form [] held b.lengths a.lengths values) (λ b fault. BreaksOn Form (int_run version false) name.Length [] n b.lengths fault) (Ok r.numbers)
       drawn = length_draws rest fed count plan lost nothing joined differ Form (int_run version false) first last [] held n (Ok r.numbers) r.fills
 
       numbers_are : s.bound ≤ 2 ^ 63 → r.numbers ≡ map pos (places_of r.numbers)
@@ -139,15 +140,15 @@ module _ {F : Type 0} (rest : F → ℕ → Option (List ℕ)) (fed : F → List
   -- ---- texts and dictionaries
 
   -- the same said of any answer
-  pub said_so : {Y : Type 0} (first last : F) (Goes Other : Streams → Streams → Y → Type 0) (Faults Faults' : Streams → ColumnFault → Type 0) (answer : Result Y ColumnFault)
+  pub said_so : {Y : Type 0} {turns : List (Option ℕ)} (first last : F) (Goes Other : Streams → Streams → Y → Type 0) (Faults Faults' : Streams → ColumnFault → Type 0) (answer : Result Y ColumnFault)
       → ((b a : Streams) (y : Y) → Tells rest first plan b → Goes b a y → Other b a y) → ((b : Streams) (f : ColumnFault) → Tells rest first plan b → Faults b f → Faults' b f)
-      → Draws rest fed count plan first last Goes Faults answer → Draws rest fed count plan first last Other Faults' answer
+      → Draws rest fed count plan turns first last Goes Faults answer → Draws rest fed count plan turns first last Other Faults' answer
   said_so first last Goes Other Faults Faults' (Ok y) goes faults d = Draws-ok rest fed count plan lost nothing joined first last Goes Other Faults Faults' y y (λ b a tells g. goes b a y tells g) d
   said_so first last Goes Other Faults Faults' (Err fault) goes faults d = Draws-fault rest fed count plan lost nothing joined first last Goes Other Faults Faults' fault faults d
 
   pub texts_judged : (version : Version) (first last : F) (size n : ℕ) (answer : Result (Unit {0}) ColumnFault)
-      → Draws rest fed count plan first last (λ before after u. JudgedLengths version plan.body_len n before after) (λ before fault. LengthsFail version before.lengths plan.body_len n fault) answer
-      → Draws rest fed count plan first last (λ before after u. Sized plan before → JudgedValues (Texts version) size n before) (λ before fault. Sized plan before → ValuesFail size before n (Texts version) fault) answer
+      → Draws rest fed count plan (alone plan.length) first last (λ before after u. JudgedLengths version plan.body_len n before after) (λ before fault. LengthsFail version before.lengths plan.body_len n fault) answer
+      → Draws rest fed count plan (alone plan.length) first last (λ before after u. Sized plan before → JudgedValues (Texts version) size n before) (λ before fault. Sized plan before → ValuesFail size before n (Texts version) fault) answer
   texts_judged version first last size n answer d =
       said_so first last _ _ _ _ answer
       (λ b a u tells goes sized.
@@ -158,15 +159,17 @@ module _ {F : Type 0} (rest : F → ℕ → Option (List ℕ)) (fed : F → List
 
   -- the dictionary is broken
   pub entries_broken : (version : Version) (first last : F) (size n : ℕ) (fault : ColumnFault)
-      → Draws {Y = Unit {0}} rest fed count plan first last (λ before after u. JudgedLengths version plan.dictionary_len size before after) (λ before fault. LengthsFail version before.lengths plan.dictionary_len size fault) (Err fault)
-      → Draws {Y = Unit {0}} rest fed count plan first last (λ before after u. Sized plan before → JudgedValues (Dictionary version) size n before) (λ before fault. Sized plan before → ValuesFail size before n (Dictionary version) fault) (Err fault)
+      → Draws {Y = Unit {0}} rest fed count plan (alone plan.length) first last (λ before after u. JudgedLengths version plan.dictionary_len size before after) (λ before fault. LengthsFail version before.lengths plan.dictionary_len size fault) (Err fault)
+      → Draws {Y = Unit {0}} rest fed count plan (plan.length ∷ alone plan.body) first last (λ before after u. Sized plan before → JudgedValues (Dictionary version) size n before) (λ before fault. Sized plan before → ValuesFail size before n (Dictionary version) fault) (Err fault)
   entries_broken version first last size n fault d =
-      Draws-fault rest fed count plan lost nothing joined first last _ _ _ _ fault (λ b f tells fails sized. entries (subst (λ (k : ℕ). LengthsFail version b.lengths k size f) sized.1 fails)) d
+      Draws-front rest fed count plan lost nothing joined (alone plan.body) first last _ _ (Err fault)
+      (Draws-fault rest fed count plan lost nothing joined first last _ _ _ (λ before fault. Sized plan before → ValuesFail size before n (Dictionary version) fault) fault
+      (λ b f tells fails sized. entries (subst (λ (k : ℕ). LengthsFail version b.lengths k size f) sized.1 fails)) d)
 
   module _ (version : Version) (first between last : F) (held : List ℤ) (size n : ℕ)
-      (one : Draws {Y = Unit {0}} rest fed count plan first between (λ before after u. JudgedLengths version plan.dictionary_len size before after) (λ before fault. LengthsFail version before.lengths plan.dictionary_len size fault) (Ok tt)) where
+      (one : Draws {Y = Unit {0}} rest fed count plan (alone plan.length) first between (λ before after u. JudgedLengths version plan.dictionary_len size before after) (λ before fault. LengthsFail version before.lengths plan.dictionary_len size fault) (Ok tt)) where
     abbrev Entries : Result (Unit {0}) ColumnFault → Type 0
-    Entries answer = Draws rest fed count plan first last (λ before after u. Sized plan before → JudgedValues (Dictionary version) size n before) (λ before fault. Sized plan before → ValuesFail size before n (Dictionary version) fault) answer
+    Entries answer = Draws rest fed count plan (plan.length ∷ alone plan.body) first last (λ before after u. Sized plan before → JudgedValues (Dictionary version) size n before) (λ before fault. Sized plan before → ValuesFail size before n (Dictionary version) fault) answer
 
     sized : (b : Streams) (lengths : List ℕ) → Sized plan b → AreLengths version b.lengths plan.dictionary_len lengths → AreLengths version b.lengths (length b.dictionary) lengths
     sized b lengths lens are = subst (λ (k : ℕ). AreLengths version b.lengths k lengths) lens.1 are
@@ -185,7 +188,7 @@ module _ {F : Type 0} (rest : F → ℕ → Option (List ℕ)) (fed : F → List
         (places lengths so.1.1.1 (sized b lengths lens so.1.1.2) (subst (λ (s : List ℕ). Breaks (IntRun version false) (int_run version false) s n from.0) body from.2))) both
 
     module _ (s : Summary) (r : ReadsNumbers rest fed count (IntRun version false) (int_run version false) plan.body between last [] held n (Ok s)) where
-      two : Draws rest fed count plan between last (λ b a values. OnlyBody b a × GoesOn (IntRun version false) [] held b.body a.body values) (λ b fault. BreaksOn (IntRun version false) (int_run version false) name.Body [] n b.body fault) (Ok r.numbers)
+      two : Draws rest fed count plan (alone plan.body) between last (λ b a values. OnlyBody b a × GoesOn (IntRun version false) [] held b.body a.body values) (λ b fault. BreaksOn (IntRun version false) (int_run version false) name.Body [] n b.body fault) (Ok r.numbers)
       two = body_draws rest fed count plan lost nothing joined differ (IntRun version false) (int_run version false) between last [] held n (Ok r.numbers) r.fills
 
       top : s.bound ≡ bound_from 0 r.numbers

@@ -1,5 +1,5 @@
 -- How a whole column is judged: which rows have a value, and then the values.
-use Rattle.std.proofs.Common.{◌≡◌, ℕ, List, [], ◌++◌, length, Option, Some, None, Ok, Err, refl, sym, ◌∙◌, ap, subst, arith, zero-add}
+use Rattle.std.proofs.Common.{◌≡◌, ℕ, List, [], ◌∷◌, ◌++◌, length, Option, Some, None, Ok, Err, refl, sym, ◌∙◌, ap, subst, arith, zero-add}
 use Rattle.std.specs.Prelude.{Result}
 use Rattle.std.proofs.lemmas.List.{length-map}
 use Rattle.outside.specs.declared.run_fault.RunFault.{RunFault}
@@ -18,15 +18,17 @@ use Rattle.orc_columns.specs.declared.spelling.Spelling.TheVariants.{Bits, Integ
 use Rattle.orc_columns.specs.Batches.{HoldsNoRead}
 use Rattle.orc_columns.specs.Column.{Streams, PresentBreaks, AreValues, ValuesFail, bits, integers, texts, entries, places, index, Fails, encoding, nulls, values, row_value, rows_of}
 use Rattle.orc_columns.specs.Decoders.{PresentOf, new_present}
-use Rattle.orc_columns.specs.Draws.{StreamsDiffer, Tells, Draws, Decided, of_run, OnlyPresent}
-use Rattle.orc_columns.specs.FirstFault.{found_by, Judges, IsUndecided, Sized, StandingRows, NoStandingRows, JudgedValues, JudgedColumn}
+use Rattle.orc_columns.specs.Draws.{StreamsDiffer, Tells, Draws, IsReadError, Decided, of_run, OnlyPresent}
+use Rattle.orc_columns.specs.FirstFault.{found_by, Judges, IsJudged, Sized, StandingRows, NoStandingRows, JudgedValues, JudgedColumn}
 use Rattle.orc_columns.specs.Flags.{ReadsFlags}
 use Rattle.orc_columns.specs.Optional.{rest_in}
 use Rattle.orc_columns.specs.Present.{PresentBetween}
 use Rattle.orc_columns.specs.Spelling.{spelling_of}
-use Rattle.orc_columns.proofs.Drawing.{Draws-ok, Draws-fault, Draws-then, present_draws}
+use Rattle.orc_columns.proofs.Drawing.{Draws-ok, Draws-fault, Draws-then, Draws-front, present_draws}
 use Rattle.orc_columns.proofs.Judged.{said_so}
 use Rattle.orc_columns.proofs.ReadingRows.{given_are_present}
+use Rattle.orc_columns.proofs.Turns.{InTurn-none}
+use Rattle.orc_columns.specs.Turns.{InTurn, alone, judged_values, judged_by, judged_streams}
 
 -- before the first row
 present_begins : (stream : Option ℕ) (start : List ℕ) → (stream ≡ None → start ≡ []) → PresentBetween (new_present stream).state start [] [] start
@@ -61,14 +63,14 @@ module _ {F : Type 0} (rest : F → ℕ → Option (List ℕ)) (fed : F → List
   begins feed s tells = present_begins plan.present s.present (nothing_left feed s tells)
 
   pub standing_judged : (p : PresentOf) (first last : F) (rows standing : ℕ) → ReadsFlags rest fed count (new_present plan.present) p first last rows (Ok standing)
-      → Draws rest fed count plan first last (StandingRows rows) (NoStandingRows rows) (Ok standing)
+      → Draws rest fed count plan (alone plan.present) first last (StandingRows rows) (NoStandingRows rows) (Ok standing)
   standing_judged p first last rows standing r =
       let drawn = present_draws rest fed count plan lost nothing joined differ (new_present plan.present) p first last rows (Ok r.flags) refl r.fills in
       Draws-ok rest fed count plan lost nothing joined first last _ _ _ _ r.flags standing
       (λ b a tells goes. (goes.0, (r.flags, r.set.0, given_are_present p.state b.present r.flags p.held a.present (goes.1 b.present [] (begins first b tells)), r.set.1))) drawn
 
   pub standing_broken : (p : PresentOf) (first last : F) (rows : ℕ) (fault : RunFault) → ReadsFlags rest fed count (new_present plan.present) p first last rows (Err fault)
-      → Draws {Y = ℕ} rest fed count plan first last (StandingRows rows) (NoStandingRows rows) (Err (of_run name.Present fault))
+      → Draws {Y = ℕ} rest fed count plan (alone plan.present) first last (StandingRows rows) (NoStandingRows rows) (Err (of_run name.Present fault))
   standing_broken p first last rows fault r =
       let drawn = present_draws rest fed count plan lost nothing joined differ (new_present plan.present) p first last rows (Err fault) refl r.fills in
       Draws-fault rest fed count plan lost nothing joined first last _ _ _ _ (of_run name.Present fault)
@@ -76,16 +78,18 @@ module _ {F : Type 0} (rest : F → ℕ → Option (List ℕ)) (fed : F → List
 
   -- PRESENT is broken
   pub column_broken : (spelling : Spelling) (first last : F) (rows : ℕ) (fault : ColumnFault) → spelling_of plan.kind plan.encoding ≡ Some spelling
-      → Draws {Y = ℕ} rest fed count plan first last (StandingRows rows) (NoStandingRows rows) (Err fault)
-      → Draws {Y = Unit {0}} rest fed count plan first last (λ before after u. JudgedColumn plan rows before) (λ before fault. Fails plan before rows fault) (Err fault)
+      → Draws {Y = ℕ} rest fed count plan (alone plan.present) first last (StandingRows rows) (NoStandingRows rows) (Err fault)
+      → Draws {Y = Unit {0}} rest fed count plan (plan.present ∷ judged_values plan spelling) first last (λ before after u. JudgedColumn plan rows before) (λ before fault. Fails plan before rows fault) (Err fault)
   column_broken spelling first last rows fault spelled d =
-      Draws-fault rest fed count plan lost nothing joined first last _ _ _ _ fault (λ b f tells breaks. subst (λ (g : ColumnFault). Fails plan b rows g) (sym breaks.1) (nulls spelling spelled breaks.2)) d
+      Draws-front rest fed count plan lost nothing joined (judged_values plan spelling) first last _ _ (Err fault)
+      (Draws-fault rest fed count plan lost nothing joined first last _ (λ before after u. JudgedColumn plan rows before) _ (λ before fault. Fails plan before rows fault) fault
+      (λ b f tells breaks. subst (λ (g : ColumnFault). Fails plan b rows g) (sym breaks.1) (nulls spelling spelled breaks.2)) d)
 
   -- the rows with a value are known, and the values were judged
   pub column_judged : (spelling : Spelling) (first between last : F) (rows standing : ℕ) (answer : Result (Unit {0}) ColumnFault) → spelling_of plan.kind plan.encoding ≡ Some spelling → ((s : Streams) → Tells rest first plan s → Sized plan s)
-      → Draws rest fed count plan first between (StandingRows rows) (NoStandingRows rows) (Ok standing)
-      → Draws rest fed count plan between last (λ before after u. Sized plan before → JudgedValues spelling plan.dictionary_size standing before) (λ before fault. Sized plan before → ValuesFail plan.dictionary_size before standing spelling fault) answer
-      → Draws rest fed count plan first last (λ before after u. JudgedColumn plan rows before) (λ before fault. Fails plan before rows fault) answer
+      → Draws rest fed count plan (alone plan.present) first between (StandingRows rows) (NoStandingRows rows) (Ok standing)
+      → Draws rest fed count plan (judged_values plan spelling) between last (λ before after u. Sized plan before → JudgedValues spelling plan.dictionary_size standing before) (λ before fault. Sized plan before → ValuesFail plan.dictionary_size before standing spelling fault) answer
+      → Draws rest fed count plan (plan.present ∷ judged_values plan spelling) first last (λ before after u. JudgedColumn plan rows before) (λ before fault. Fails plan before rows fault) answer
   column_judged spelling first between last rows standing answer spelled lens one two =
       said_so rest fed count plan lost nothing joined differ first last _ _ _ _ answer (λ b a u tells so. column b so.0 so.1 (so.2 (still b so.0 so.1.0 (lens b tells)))) (λ b f tells so. failed b so.0 f so.1 (so.2 (still b so.0 so.1.0 (lens b tells))))
       (Draws-then rest fed count plan lost nothing joined first between last _ _ _ _ standing answer one two)
@@ -115,68 +119,67 @@ module _ {F : Type 0} (rest : F → ℕ → Option (List ℕ)) (fed : F → List
 
   -- ---- what is found
 
-  pub found_none : (first last : F) (rows : ℕ)
-      → Draws {Y = Unit {0}} rest fed count plan first last (λ before after u. JudgedColumn plan rows before) (λ before fault. Fails plan before rows fault) (Ok tt) → Judges rest fed count plan rows first last (Ok None)
-  found_none first last rows d = record {
-    takes = d.takes;
-    led = d.led;
-    own = d.own;
-    cause = record { later = d.cause.later; failed = λ f. absurd f };
-    undecided = tt;
-    no_read = tt;
-    told = λ s tells. (d.told s tells).2;
-  }
+  turns_of : (spelling : Spelling) (takes : List Taken) → spelling_of plan.kind plan.encoding ≡ Some spelling → InTurn (plan.present ∷ judged_values plan spelling) takes → InTurn (judged_streams plan) takes
+  turns_of spelling takes spelled turns = subst (λ (s : Option Spelling). InTurn (judged_by plan s) takes) (sym spelled) turns
 
-  fault_of : (A : ColumnFault → Type 0) (fault : ColumnFault) → (IsUndecided fault → ⊥) → Decided A fault → A fault
-  fault_of A (Read failed) decided so = absurd (decided tt)
-  fault_of A NoMemory decided so = absurd (decided tt)
-  fault_of A BadEncoding decided so = so
-  fault_of A (Run name fault) decided so = so
-  fault_of A NegativeLength decided so = so
-  fault_of A LengthsPastData decided so = so
-  fault_of A IndexOutOfDictionary decided so = so
+  module _ (spelling : Spelling) (spelled : spelling_of plan.kind plan.encoding ≡ Some spelling) (first last : F) (rows : ℕ) where
+    pub found_none : Draws {Y = Unit {0}} rest fed count plan (plan.present ∷ judged_values plan spelling) first last (λ before after u. JudgedColumn plan rows before) (λ before fault. Fails plan before rows fault) (Ok tt)
+        → Judges rest fed count plan rows first last (Ok None)
+    found_none d = record {
+      takes = d.takes;
+      led = d.led;
+      own = d.own;
+      turns = turns_of spelling d.takes spelled d.turns;
+      cause = record { later = d.cause.later; failed = λ f. absurd f };
+      failed = tt;
+      no_read = tt;
+      told = λ s tells. (d.told s tells).2;
+    }
 
-  pub found_fault : (first last : F) (rows : ℕ) (fault : ColumnFault) → (IsUndecided fault → ⊥) → HoldsNoRead fault
-      → Draws {Y = Unit {0}} rest fed count plan first last (λ before after u. JudgedColumn plan rows before) (λ before fault. Fails plan before rows fault) (Err fault) → Judges rest fed count plan rows first last (Ok (Some fault))
-  found_fault first last rows fault decided no_read d = record {
-    takes = d.takes;
-    led = d.led;
-    own = d.own;
-    cause = record { later = d.cause.later; failed = λ f. absurd f };
-    undecided = tt;
-    no_read = no_read;
-    told = λ s tells. fault_of (λ f. Fails plan s rows f) fault decided (d.told s tells);
-  }
+    abbrev Broken : ColumnFault → Type 0
+    Broken fault = Draws {Y = Unit {0}} rest fed count plan (plan.present ∷ judged_values plan spelling) first last (λ before after u. JudgedColumn plan rows before) (λ before fault. Fails plan before rows fault) (Err fault)
 
-  pub found_nothing : (first last : F) (rows : ℕ) (fault : ColumnFault) → IsUndecided fault
-      → Draws {Y = Unit {0}} rest fed count plan first last (λ before after u. JudgedColumn plan rows before) (λ before fault. Fails plan before rows fault) (Err fault) → Judges rest fed count plan rows first last (Err fault)
-  found_nothing first last rows fault undecided d = record {
-    takes = d.takes;
-    led = d.led;
-    own = d.own;
-    cause = d.cause;
-    undecided = undecided;
-    no_read = tt;
-    told = λ s tells. tt;
-  }
+    found_fault : (fault : ColumnFault) → ((s : Streams) → Decided (λ f. Fails plan s rows f) fault → Fails plan s rows fault) → HoldsNoRead fault → Broken fault → Judges rest fed count plan rows first last (Ok (Some fault))
+    found_fault fault decided no_read d = record {
+      takes = d.takes;
+      led = d.led;
+      own = d.own;
+      turns = turns_of spelling d.takes spelled d.turns;
+      cause = record { later = d.cause.later; failed = λ f. absurd f };
+      failed = tt;
+      no_read = no_read;
+      told = λ s tells. decided s (d.told s tells);
+    }
+
+    found_nothing : (fault : ColumnFault) → IsReadError fault → Broken fault → Judges rest fed count plan rows first last (Err fault)
+    found_nothing fault failed d = record {
+      takes = d.takes;
+      led = d.led;
+      own = d.own;
+      turns = turns_of spelling d.takes spelled d.turns;
+      cause = d.cause;
+      failed = failed;
+      no_read = tt;
+      told = λ s tells. tt;
+    }
+
+    pub found_so : (fault : ColumnFault) → IsJudged fault → Broken fault → Judges rest fed count plan rows first last (found_by fault)
+    found_so (Read failed) judged d = found_nothing (Read failed) tt d
+    found_so NoMemory judged d = absurd judged
+    found_so BadEncoding judged d = found_fault BadEncoding (λ s so. so) tt d
+    found_so (Run name fault) judged d = found_fault (Run name fault) (λ s so. so) judged d
+    found_so NegativeLength judged d = found_fault NegativeLength (λ s so. so) tt d
+    found_so LengthsPastData judged d = found_fault LengthsPastData (λ s so. so) tt d
+    found_so IndexOutOfDictionary judged d = found_fault IndexOutOfDictionary (λ s so. so) tt d
 
   pub bad_encoding : (feed : F) (rows : ℕ) → spelling_of plan.kind plan.encoding ≡ None → Judges rest fed count plan rows feed feed (Ok (Some BadEncoding))
   bad_encoding feed rows lacks = record {
     takes = [];
     led = nothing feed;
     own = tt;
+    turns = InTurn-none (judged_streams plan);
     cause = record { later = omega arith; failed = λ f. absurd f };
-    undecided = tt;
+    failed = tt;
     no_read = tt;
     told = λ s tells. encoding lacks;
   }
-
-  pub found_so : (first last : F) (rows : ℕ) (fault : ColumnFault) → HoldsNoRead fault
-      → Draws {Y = Unit {0}} rest fed count plan first last (λ before after u. JudgedColumn plan rows before) (λ before fault. Fails plan before rows fault) (Err fault) → Judges rest fed count plan rows first last (found_by fault)
-  found_so first last rows (Read failed) no_read d = found_nothing first last rows (Read failed) tt d
-  found_so first last rows NoMemory no_read d = found_nothing first last rows NoMemory tt d
-  found_so first last rows BadEncoding no_read d = found_fault first last rows BadEncoding (λ f. f) no_read d
-  found_so first last rows (Run name fault) no_read d = found_fault first last rows (Run name fault) (λ f. f) no_read d
-  found_so first last rows NegativeLength no_read d = found_fault first last rows NegativeLength (λ f. f) no_read d
-  found_so first last rows LengthsPastData no_read d = found_fault first last rows LengthsPastData (λ f. f) no_read d
-  found_so first last rows IndexOutOfDictionary no_read d = found_fault first last rows IndexOutOfDictionary (λ f. f) no_read d

@@ -1,3 +1,4 @@
+mod AllLeft
 mod Beginnings
 mod Cases
 mod Decoders
@@ -22,5 +23,6 @@ mod Summaries
 mod Taking
 mod TextLengths
 mod TextRows
+mod Turns
 mod WholeColumns
 mod WholeDictionary

@@ -1,12 +1,12 @@
 -- A batch of a dictionary's texts, by the numbers of their entries.
-use Rattle.std.proofs.Common.{◌≡◌, ℕ, ◌+◌, ◌<◌, Bool, true, false, List, [], ◌∷◌, ◌++◌, length, map, Option, Some, None, Ok, Err, ℤ, refl, sym, ◌∙◌, ap, subst, arith, length-append}
+use Rattle.std.proofs.Common.{◌≡◌, ℕ, ◌+◌, ◌<◌, Bool, true, false, List, [], ◌∷◌, ◌++◌, length, map, Option, Some, None, Ok, Err, ℤ, pos, refl, sym, ◌∙◌, ap, subst, arith, length-append}
 use Rattle.std.specs.Prelude.{All, Contains, slice_index_or}
 use Rattle.std.specs.Option.{unwrap_or}
 use Rattle.std.specs.Int.{w64, cast_unsigned}
 use Rattle.std.proofs.lemmas.List.{map-append, length-map}
 use Rattle.std.proofs.lemmas.List.Elements.{Contains-append_right, All-append}
 use Rattle.outside.specs.Feed.{Taken, Lost, taken_of}
-use Rattle.outside.specs.Runs.{Between, Breaks}
+use Rattle.outside.specs.Runs.{Between, Breaks, Spells}
 use Rattle.orc_values.specs.declared.column_values.ColumnValues.{ColumnValues}
 use Rattle.orc_values.specs.declared.value.Value.{Value}
 use Rattle.orc_values.specs.declared.value.Value.TheVariants as value
@@ -30,6 +30,7 @@ use Rattle.orc_columns.specs.Spelling.{IntRun, int_run}
 use Rattle.orc_columns.proofs.DenseRows.{dense_rows}
 use Rattle.orc_columns.proofs.Drawing.{Draws-ok, Draws-fault, Draws-stops}
 use Rattle.orc_columns.proofs.TextLengths.{of_sign, unsigned_of}
+use Rattle.orc_columns.specs.Turns.{alone}
 
 text_of_chosen : (entries : List (List ℕ)) (numbers : List ℕ) → map (λ t. value.Text t) (chosen entries numbers) ≡ map (entry_text entries) numbers
 text_of_chosen entries [] = refl
@@ -87,6 +88,8 @@ module _ (size n : ℕ) (flags : List Bool) (entries : List (List ℕ)) (old new
               of_version,
               all,
               ap (λ (l : List Value). l ++ map (entry_text entries) (places_of numbers)) at.7 ∙ sym (map-append (entry_text entries) (places_of before) (places_of numbers)) ∙ ap (λ (l : List ℕ). map (entry_text entries) l) (sym (places_of-append before numbers)),
+              subst (λ (l : List ℕ). Spells (IntRun new.version false) start.lengths (map pos at.0) l) (sym on.0.1) (subst (λ (v : Version). Spells (IntRun v false) start.lengths (map pos at.0) b.lengths) (sym version) at.8),
+              on.0.2 ∙ at.9,
             );
       }
 
@@ -126,22 +129,22 @@ module _ (size n : ℕ) (flags : List Bool) (entries : List (List ℕ)) (old new
       (first last : F) where
     pub places_ok : (numbers : List ℤ) (typed : ColumnValues) → new.version ≡ old.version → length numbers ≡ n → All (λ place. place < length entries) (places_of numbers)
         → column_of flags typed ≡ map (value_by (λ t. value.Text t)) (woven flags (chosen entries (places_of numbers)))
-        → Draws rest fed count plan first last (NumbersGoOn old new) (NumbersBreak old n) (Ok numbers)
-        → Draws rest fed count plan first last (ValuesGoOn size flags (reader_of entries old) (reader_of entries new)) (ValuesBreak size (present_count flags) (reader_of entries old)) (Ok typed)
+        → Draws rest fed count plan (alone plan.body) first last (NumbersGoOn old new) (NumbersBreak old n) (Ok numbers)
+        → Draws rest fed count plan (alone plan.body) first last (ValuesGoOn size flags (reader_of entries old) (reader_of entries new)) (ValuesBreak size (present_count flags) (reader_of entries old)) (Ok typed)
     places_ok numbers typed version len below rows d =
         Draws-ok rest fed count plan lost nothing joined first last (NumbersGoOn old new) (ValuesGoOn size flags (reader_of entries old) (reader_of entries new))
         (NumbersBreak old n) (ValuesBreak size (present_count flags) (reader_of entries old)) numbers typed (λ b a tells goes. places_go b a numbers typed version len below rows goes) d
 
     pub places_fault : (fault : ColumnFault)
-        → Draws {Y = List ℤ} rest fed count plan first last (NumbersGoOn old new) (NumbersBreak old n) (Err fault)
-        → Draws rest fed count plan first last (ValuesGoOn size flags (reader_of entries old) (reader_of entries new)) (ValuesBreak size (present_count flags) (reader_of entries old)) (Err fault)
+        → Draws {Y = List ℤ} rest fed count plan (alone plan.body) first last (NumbersGoOn old new) (NumbersBreak old n) (Err fault)
+        → Draws rest fed count plan (alone plan.body) first last (ValuesGoOn size flags (reader_of entries old) (reader_of entries new)) (ValuesBreak size (present_count flags) (reader_of entries old)) (Err fault)
     places_fault fault d =
         Draws-fault rest fed count plan lost nothing joined first last (NumbersGoOn old new) (ValuesGoOn size flags (reader_of entries old) (reader_of entries new))
         (NumbersBreak old n) (ValuesBreak size (present_count flags) (reader_of entries old)) fault (λ b f tells breaks. places_break b f breaks) d
 
     pub places_out : (numbers : List ℤ) (fault : ColumnFault) → length numbers ≡ n → IsOutOf entries numbers fault
-        → Draws rest fed count plan first last (NumbersGoOn old new) (NumbersBreak old n) (Ok numbers)
-        → Draws rest fed count plan first last (ValuesGoOn size flags (reader_of entries old) (reader_of entries new)) (ValuesBreak size (present_count flags) (reader_of entries old)) (Err fault)
+        → Draws rest fed count plan (alone plan.body) first last (NumbersGoOn old new) (NumbersBreak old n) (Ok numbers)
+        → Draws rest fed count plan (alone plan.body) first last (ValuesGoOn size flags (reader_of entries old) (reader_of entries new)) (ValuesBreak size (present_count flags) (reader_of entries old)) (Err fault)
     places_out numbers fault len is d =
         Draws-stops rest fed count plan lost nothing joined first last (NumbersGoOn old new) (ValuesGoOn size flags (reader_of entries old) (reader_of entries new))
         (NumbersBreak old n) (ValuesBreak size (present_count flags) (reader_of entries old)) numbers fault (no_read numbers fault is) (λ b a tells goes. out_of b a numbers fault len is goes) d

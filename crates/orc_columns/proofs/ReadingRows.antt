@@ -28,6 +28,7 @@ use Rattle.orc_columns.specs.Draws.{StreamsDiffer, Draws}
 use Rattle.orc_columns.specs.Midway.{ReaderOf, ValuesBetween, spelling_in}
 use Rattle.orc_columns.specs.Present.{PresentBetween}
 use Rattle.orc_columns.specs.Spelling.{spelling_of}
+use Rattle.orc_columns.specs.Turns.{alone, value_streams, batch_by, batch_streams}
 use Rattle.orc_columns.proofs.Drawing.{Draws-then, Draws-ok, Draws-fault}
 use Rattle.orc_columns.specs.Reader.{IsReady, IsSound, whole_reader, RowsGoOn, RowsFail}
 
@@ -41,11 +42,11 @@ given_are_present Flags [] flags held rest at = absurd (at.0 refl)
 given_are_present Flags (byte ∷ bytes) flags held rest at = (rest, (held, at.1))
 
 -- what was taken of PRESENT is nothing to the values
-pub standing_on : (size : ℕ) (start : Streams) (given : List Value) (v : ValueReader) (b m : Streams) → m.body ≡ b.body → m.lengths ≡ b.lengths → ValuesBetween size start given v b → ValuesBetween size start given v m
-standing_on size start given (reader.Bits x) b m body lengths at = rw body at
-standing_on size start given (reader.Integers x) b m body lengths at = rw body at
-standing_on size start given (reader.Texts x) b m body lengths at = rw (body, lengths) at
-standing_on size start given (reader.Dictionary x) b m body lengths at = rw body at
+pub standing_on : (size : ℕ) (start : Streams) (given : List Value) (v : ValueReader) (b m : Streams) → m.body ≡ b.body → m.lengths ≡ b.lengths → m.dictionary ≡ b.dictionary → ValuesBetween size start given v b → ValuesBetween size start given v m
+standing_on size start given (reader.Bits x) b m body lengths dictionary at = rw (body, lengths, dictionary) at
+standing_on size start given (reader.Integers x) b m body lengths dictionary at = rw (body, lengths, dictionary) at
+standing_on size start given (reader.Texts x) b m body lengths dictionary at = rw (body, lengths, dictionary) at
+standing_on size start given (reader.Dictionary x) b m body lengths dictionary at = rw (body, lengths, dictionary) at
 
 length-rows : (flags : List Bool) (dense : List Value) → length (rows_of flags dense) ≡ length flags
 length-rows flags dense = length-map (woven flags dense) row_value ∙ length-woven flags dense
@@ -63,7 +64,7 @@ module _ (plan : ColumnPlan) (old new : PresentOf) (ov nv : ValueReader) where
     spelled = at.spelled ∙ ap (λ (s : Spelling). Some s) (sym same);
     present = rw goes.present (on.1 start.present at.flags at.present);
     enough = omega (arith, length-append at.values goes.more, present_count-append at.flags flags, at.enough, goes.enough);
-    standing = goes.goes start at.values (standing_on plan.dictionary_size start at.values ov b m on.0.0 on.0.1 at.standing);
+    standing = goes.goes start at.values (standing_on plan.dictionary_size start at.values ov b m on.0.0 on.0.1 on.0.2 at.standing);
     rows_are = rw (at.rows_are, is, goes.rows_are) (sym (rows_of-append at.flags flags at.values goes.more at.enough));
   }
 
@@ -80,16 +81,16 @@ module _ (plan : ColumnPlan) (old new : PresentOf) (ov nv : ValueReader) where
       let counted : length at.values + present_count flags ≡ present_count (at.flags ++ flags) = omega (arith, present_count-append at.flags flags, at.enough) in
       let are : ArePresent start.present (at.flags ++ flags) = given_are_present new.state start.present (at.flags ++ flags) new.held m.present (on.1 start.present at.flags at.present) in
       values (spelling_in ov) (at.flags ++ flags) at.spelled len are
-      (subst (λ (k : ℕ). ValuesFail plan.dictionary_size start k (spelling_in ov) fault) counted (breaks start at.values (standing_on plan.dictionary_size start at.values ov b m on.0.0 on.0.1 at.standing)))
+      (subst (λ (k : ℕ). ValuesFail plan.dictionary_size start k (spelling_in ov) fault) counted (breaks start at.values (standing_on plan.dictionary_size start at.values ov b m on.0.0 on.0.1 on.0.2 at.standing)))
 
 module _ {F : Type 0} (rest : F → ℕ → Option (List ℕ)) (fed : F → List Taken → F → Type 0) (count : F → ℕ) (plan : ColumnPlan)
     (lost : (first last : F) (takes : List Taken) (stream : ℕ) → fed first takes last → Lost (taken_of stream takes) (rest first stream) (rest last stream))
     (nothing : (feed : F) → fed feed [] feed) (joined : (first between last : F) (xs ys : List Taken) → fed first xs between → fed between ys last → fed first (xs ++ ys) last)
     (old new : PresentOf) (ov nv : ValueReader) (n : ℕ) (first between last : F) (flags seen : List Bool) (same : seen ≡ flags) where
-  pub batch_ok : (typed : ColumnValues) (rows : List Value) → spelling_in nv ≡ spelling_in ov → rows ≡ column_of seen typed
-      → Draws rest fed count plan first between (FlagsGoOn old new) (FlagsBreak old n) (Ok flags)
-      → Draws rest fed count plan between last (ValuesGoOn plan.dictionary_size seen ov nv) (ValuesBreak plan.dictionary_size (present_count seen) ov) (Ok typed)
-      → Draws rest fed count plan first last (RowsGoOn (whole_reader plan old ov) (whole_reader plan new nv)) (RowsFail (whole_reader plan old ov) n) (Ok rows)
+  pub batch_ok : {turns : List (Option ℕ)} (typed : ColumnValues) (rows : List Value) → spelling_in nv ≡ spelling_in ov → rows ≡ column_of seen typed
+      → Draws rest fed count plan (alone plan.present) first between (FlagsGoOn old new) (FlagsBreak old n) (Ok flags)
+      → Draws rest fed count plan turns between last (ValuesGoOn plan.dictionary_size seen ov nv) (ValuesBreak plan.dictionary_size (present_count seen) ov) (Ok typed)
+      → Draws rest fed count plan (plan.present ∷ turns) first last (RowsGoOn (whole_reader plan old ov) (whole_reader plan new nv)) (RowsFail (whole_reader plan old ov) n) (Ok rows)
   batch_ok typed rows spelled is one two =
       Draws-ok rest fed count plan lost nothing joined first last
       (λ b a y. (m : Streams) × FlagsGoOn old new b m flags × ValuesGoOn plan.dictionary_size seen ov nv m a y) (RowsGoOn (whole_reader plan old ov) (whole_reader plan new nv))
@@ -97,10 +98,10 @@ module _ {F : Type 0} (rest : F → ℕ → Option (List ℕ)) (fed : F → List
       (λ b a tells goes. rows_go plan old new ov nv seen typed rows b goes.0 a spelled is (subst (λ (l : List Bool). FlagsGoOn old new b goes.0 l) (sym same) goes.1) goes.2)
       (Draws-then rest fed count plan lost nothing joined first between last (FlagsGoOn old new) (ValuesGoOn plan.dictionary_size seen ov nv) (FlagsBreak old n) (ValuesBreak plan.dictionary_size (present_count seen) ov) flags (Ok typed) one two)
 
-  pub batch_fault : (fault : ColumnFault) → length seen ≡ n
-      → Draws rest fed count plan first between (FlagsGoOn old new) (FlagsBreak old n) (Ok flags)
-      → Draws rest fed count plan between last (ValuesGoOn plan.dictionary_size seen ov nv) (ValuesBreak plan.dictionary_size (present_count seen) ov) (Err fault)
-      → Draws rest fed count plan first last (RowsGoOn (whole_reader plan old ov) (whole_reader plan new nv)) (RowsFail (whole_reader plan old ov) n) (Err fault)
+  pub batch_fault : {turns : List (Option ℕ)} (fault : ColumnFault) → length seen ≡ n
+      → Draws rest fed count plan (alone plan.present) first between (FlagsGoOn old new) (FlagsBreak old n) (Ok flags)
+      → Draws rest fed count plan turns between last (ValuesGoOn plan.dictionary_size seen ov nv) (ValuesBreak plan.dictionary_size (present_count seen) ov) (Err fault)
+      → Draws rest fed count plan (plan.present ∷ turns) first last (RowsGoOn (whole_reader plan old ov) (whole_reader plan new nv)) (RowsFail (whole_reader plan old ov) n) (Err fault)
   batch_fault fault asked one two =
       Draws-fault rest fed count plan lost nothing joined first last
       (λ b a y. (m : Streams) × FlagsGoOn old new b m flags × ValuesGoOn plan.dictionary_size seen ov nv m a y) (RowsGoOn (whole_reader plan old ov) (whole_reader plan new nv))
@@ -139,24 +140,26 @@ module _ {F : Type 0} (rest : F → ℕ → Option (List ℕ)) (fed : F → List
     (lost : (first last : F) (takes : List Taken) (stream : ℕ) → fed first takes last → Lost (taken_of stream takes) (rest first stream) (rest last stream))
     (nothing : (feed : F) → fed feed [] feed) (joined : (first between last : F) (xs ys : List Taken) → fed first xs between → fed between ys last → fed first (xs ++ ys) last) where
   -- what a batch did, said of what contracts see
-  seen_draws : (plan : ColumnPlan) (old new : PresentOf) (ov nv : ValueReader) (n : ℕ) (first last : F) (rows : List Value) (answer : Result (Unit {0}) ColumnFault) (fault : Option ColumnFault) → fault ≡ result_err answer
-      → Draws rest fed count plan first last (RowsGoOn (whole_reader plan old ov) (whole_reader plan new nv)) (RowsFail (whole_reader plan old ov) n) (placed rows answer)
-      → Draws rest fed count plan first last (RowsGoOn (whole_reader plan old ov) (reader_at plan new nv fault)) (RowsFail (whole_reader plan old ov) n) (placed rows answer)
-  seen_draws plan old new ov nv n first last rows (Ok done) fault kept d =
-      subst (λ (e : Option ColumnFault). Draws rest fed count plan first last (RowsGoOn (whole_reader plan old ov) (reader_at plan new nv e)) (RowsFail (whole_reader plan old ov) n) (Ok rows)) (sym kept) d
+  seen_draws : {turns : List (Option ℕ)} (plan : ColumnPlan) (old new : PresentOf) (ov nv : ValueReader) (n : ℕ) (first last : F) (rows : List Value) (answer : Result (Unit {0}) ColumnFault) (fault : Option ColumnFault) → fault ≡ result_err answer
+      → Draws rest fed count plan turns first last (RowsGoOn (whole_reader plan old ov) (whole_reader plan new nv)) (RowsFail (whole_reader plan old ov) n) (placed rows answer)
+      → Draws rest fed count plan turns first last (RowsGoOn (whole_reader plan old ov) (reader_at plan new nv fault)) (RowsFail (whole_reader plan old ov) n) (placed rows answer)
+  seen_draws {turns = turns} plan old new ov nv n first last rows (Ok done) fault kept d =
+      subst (λ (e : Option ColumnFault). Draws rest fed count plan turns first last (RowsGoOn (whole_reader plan old ov) (reader_at plan new nv e)) (RowsFail (whole_reader plan old ov) n) (Ok rows)) (sym kept) d
   seen_draws plan old new ov nv n first last rows (Err e) fault kept d =
       Draws-fault rest fed count plan lost nothing joined first last (RowsGoOn (whole_reader plan old ov) (whole_reader plan new nv)) (RowsGoOn (whole_reader plan old ov) (reader_at plan new nv fault))
       (RowsFail (whole_reader plan old ov) n) (RowsFail (whole_reader plan old ov) n) e (λ b f tells fails. fails) d
 
   pub reader_draws : (plan : ColumnPlan) (old new : PresentOf) (ov nv : ValueReader) (before : ReaderOf) (n : ℕ) (first last : F) (rows : List Value) (answer : Result (Unit {0}) ColumnFault) (kept fault : Option ColumnFault)
-      → reader_at plan old ov kept ≡ before → before.fault ≡ None → fault ≡ result_err answer
-      → Draws rest fed count plan first last (RowsGoOn (whole_reader plan old ov) (whole_reader plan new nv)) (RowsFail (whole_reader plan old ov) n) (placed rows answer)
-      → Draws rest fed count before.plan first last (RowsGoOn before (reader_at plan new nv fault)) (RowsFail before n) (placed rows answer)
-  reader_draws plan old new ov nv before n first last rows answer kept fault is fresh answered d =
+      → spelling_of plan.kind plan.encoding ≡ Some (spelling_in ov) → reader_at plan old ov kept ≡ before → before.fault ≡ None → fault ≡ result_err answer
+      → Draws rest fed count plan (plan.present ∷ value_streams plan (spelling_in ov)) first last (RowsGoOn (whole_reader plan old ov) (whole_reader plan new nv)) (RowsFail (whole_reader plan old ov) n) (placed rows answer)
+      → Draws rest fed count before.plan (batch_streams before.plan) first last (RowsGoOn before (reader_at plan new nv fault)) (RowsFail before n) (placed rows answer)
+  reader_draws plan old new ov nv before n first last rows answer kept fault spelled is fresh answered d =
       let none : kept ≡ None = ap (λ (r : ReaderOf). r.fault) is ∙ fresh in
       let whole : whole_reader plan old ov ≡ before = ap (λ (e : Option ColumnFault). reader_at plan old ov e) (sym none) ∙ is in
-      subst (λ (r : ReaderOf). Draws rest fed count r.plan first last (RowsGoOn r (reader_at plan new nv fault)) (RowsFail r n) (placed rows answer)) whole
-      (seen_draws plan old new ov nv n first last rows answer fault answered d)
+      subst (λ (r : ReaderOf). Draws rest fed count r.plan (batch_streams r.plan) first last (RowsGoOn r (reader_at plan new nv fault)) (RowsFail r n) (placed rows answer)) whole
+      (subst (λ (turns : List (Option ℕ)). Draws rest fed count plan turns first last (RowsGoOn (whole_reader plan old ov) (reader_at plan new nv fault)) (RowsFail (whole_reader plan old ov) n) (placed rows answer))
+      (ap (λ (s : Option Spelling). batch_by plan s) (sym spelled))
+      (seen_draws plan old new ov nv n first last rows answer fault answered d))
 
 -- an option that isn't Some
 pub not_some : {A : Type 0} (o : Option A) → ((x : A) → o ≡ Some x → ⊥) → o ≡ None

@@ -12,6 +12,8 @@ use Rattle.orc_columns.specs.Draws.{StreamsDiffer, Tells, FailedToRead, Decided,
 use Rattle.orc_columns.specs.Optional.{rest_in, AllIn}
 use Rattle.orc_columns.specs.Takes.{ReadsIn, take_fault, BodyTaken, BodyShort, DictionaryTaken, DictionaryShort}
 use Rattle.orc_columns.proofs.Drawing.{all_in, untouched}
+use Rattle.orc_columns.specs.Turns.{alone}
+use Rattle.orc_columns.proofs.Turns.{InTurn-alone}
 
 -- ---- just so many bytes
 
@@ -84,14 +86,15 @@ module _ {F : Type 0} (rest : F → ℕ → Option (List ℕ)) (fed : F → List
     body_said takes led own before tells (Err fault) read = short_fault n before.body fault read
 
     pub body_taken : (stream : Option ℕ) (answer : Result (List ℕ) RunFault) (said : Result (List ℕ) ColumnFault) → stream ≡ plan.body → taken answer ≡ said → ReadsIn rest fed count stream (exactly n) first last answer
-        → Draws rest fed count plan first last (BodyTaken n) (BodyShort n) said
+        → Draws rest fed count plan (alone plan.body) first last (BodyTaken n) (BodyShort n) said
     body_taken stream answer said on is reads =
         let r : ReadsIn rest fed count plan.body (exactly n) first last answer = subst (λ (o : Option ℕ). ReadsIn rest fed count o (exactly n) first last answer) on reads in
-        subst (λ (a : Result (List ℕ) ColumnFault). Draws rest fed count plan first last (BodyTaken n) (BodyShort n) a) is
+        subst (λ (a : Result (List ℕ) ColumnFault). Draws rest fed count plan (alone plan.body) first last (BodyTaken n) (BodyShort n) a) is
         (record {
           takes = r.takes;
           led = r.led;
           own = all_in plan plan.body r.takes (λ stream is. inr (inl is)) r.own;
+          turns = InTurn-alone plan.body r.takes r.own;
           cause = record { later = r.cause.later; failed = λ f. r.cause.failed (failed_take answer f) };
           told = λ before tells. body_said r.takes r.led r.own before tells answer (r.told before.body tells.body);
         })
@@ -112,14 +115,15 @@ module _ {F : Type 0} (rest : F → ℕ → Option (List ℕ)) (fed : F → List
     dictionary_said takes led own before tells (Err fault) read = short_fault n before.dictionary fault read
 
     pub dictionary_taken : (stream : Option ℕ) (answer : Result (List ℕ) RunFault) (said : Result (List ℕ) ColumnFault) → stream ≡ plan.dictionary → taken answer ≡ said → ReadsIn rest fed count stream (exactly n) first last answer
-        → Draws rest fed count plan first last (DictionaryTaken n) (DictionaryShort n) said
+        → Draws rest fed count plan (alone plan.dictionary) first last (DictionaryTaken n) (DictionaryShort n) said
     dictionary_taken stream answer said on is reads =
         let r : ReadsIn rest fed count plan.dictionary (exactly n) first last answer = subst (λ (o : Option ℕ). ReadsIn rest fed count o (exactly n) first last answer) on reads in
-        subst (λ (a : Result (List ℕ) ColumnFault). Draws rest fed count plan first last (DictionaryTaken n) (DictionaryShort n) a) is
+        subst (λ (a : Result (List ℕ) ColumnFault). Draws rest fed count plan (alone plan.dictionary) first last (DictionaryTaken n) (DictionaryShort n) a) is
         (record {
           takes = r.takes;
           led = r.led;
           own = all_in plan plan.dictionary r.takes (λ stream is. inr (inr (inr is))) r.own;
+          turns = InTurn-alone plan.dictionary r.takes r.own;
           cause = record { later = r.cause.later; failed = λ f. r.cause.failed (failed_take answer f) };
           told = λ before tells. dictionary_said r.takes r.led r.own before tells answer (r.told before.dictionary tells.dictionary);
         })

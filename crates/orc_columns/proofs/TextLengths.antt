@@ -19,6 +19,7 @@ use Rattle.orc_columns.specs.Decoders.{IntegersOf}
 use Rattle.orc_columns.specs.Draws.{Draws, Decided, IsReadError}
 use Rattle.orc_columns.specs.Spelling.{IntRun, int_run}
 use Rattle.orc_columns.proofs.Drawing.{Draws-ok, Draws-stops}
+use Rattle.orc_columns.specs.Turns.{alone}
 
 some_of : (numbers : List ℤ) (i : ℕ) → i < length numbers → sum (map unsigned_abs (take i numbers)) + unsigned_abs (slice_index_or numbers i (pos 0)) ≤ sum (map unsigned_abs numbers)
 some_of [] i h = absurd (omega arith)
@@ -98,7 +99,7 @@ module _ {F : Type 0} (rest : F → ℕ → Option (List ℕ)) (fed : F → List
     (old new : IntegersOf) (n room : ℕ) (first last : F) where
   -- lengths that were read are judged
   pub lengths_judged : (numbers : List ℤ) (answer : Result ℕ ColumnFault) → old.signed ≡ false → length numbers ≡ n → IfErr answer (AreRefused numbers room)
-      → Draws rest fed count plan first last (LengthsGoOn old new) (LengthsBreak old n) (Ok numbers) → Draws rest fed count plan first last (LengthsGoOn old new) (LengthsRefuse old n room) (placed numbers answer)
+      → Draws rest fed count plan (alone plan.length) first last (LengthsGoOn old new) (LengthsBreak old n) (Ok numbers) → Draws rest fed count plan (alone plan.length) first last (LengthsGoOn old new) (LengthsRefuse old n room) (placed numbers answer)
   lengths_judged numbers (Ok total) unsigned len are d =
       Draws-ok rest fed count plan lost nothing joined first last (LengthsGoOn old new) (LengthsGoOn old new) (LengthsBreak old n) (LengthsRefuse old n room) numbers numbers (λ b a tells goes. goes) d
   lengths_judged numbers (Err fault) unsigned len are d =

@@ -1,5 +1,5 @@
 -- The rows of a batch of texts.
-use Rattle.std.proofs.Common.{◌≡◌, ℕ, ◌+◌, ◌-◌, ◌≤◌, Bool, false, List, [], ◌++◌, length, map, take, drop, sum, Option, Ok, Err, ℤ, pos, unsigned_abs, sym, ◌∙◌, ap, subst, arith, length-drop}
+use Rattle.std.proofs.Common.{◌≡◌, ℕ, ◌+◌, ◌-◌, ◌≤◌, Bool, false, List, [], ◌∷◌, ◌++◌, length, map, take, drop, sum, Option, Ok, Err, ℤ, pos, unsigned_abs, sym, ◌∙◌, ap, subst, arith, length-drop}
 use Rattle.std.proofs.lemmas.List.{map-append, length-map, length-take-le, drop-drop, take-append-drop}
 use Rattle.outside.specs.Feed.{Taken, Lost, taken_of}
 use Rattle.outside.specs.Runs.{Between}
@@ -24,6 +24,7 @@ use Rattle.orc_columns.specs.Takes.{BodyTaken, BodyShort}
 use Rattle.orc_columns.proofs.DenseRows.{dense_rows}
 use Rattle.orc_columns.proofs.Drawing.{Draws-then, Draws-ok, Draws-fault}
 use Rattle.orc_columns.proofs.TextLengths.{sum-append, joined_lengths, lengths_go}
+use Rattle.orc_columns.specs.Turns.{alone}
 
 -- texts of which some bytes were taken, and then these
 pub slices_on : (lens more bytes start : List ℕ) → sum lens + sum more ≤ length start → bytes ≡ take (sum more) (drop (sum lens) start) → slices 0 lens start ++ slices 0 more bytes ≡ slices 0 (lens ++ more) start
@@ -73,6 +74,7 @@ module _ (size n : ℕ) (flags : List Bool) (old new : IntegersOf) (body : Optio
               omega (arith, at.2, sums, total_of.within),
               body_is,
               ap (λ (l : List Value). l ++ map kind (slices 0 more bytes)) at.4 ∙ sym (map-append kind (slices 0 lens start.body) (slices 0 more bytes)) ∙ ap (λ (l : List (List ℕ)). map kind l) (slices_on lens more bytes start.body enough bytes_are),
+              took.only.2 ∙ on.0.2 ∙ at.5,
             );
       }
 
@@ -100,9 +102,9 @@ module _ (size n : ℕ) (flags : List Bool) (old new : IntegersOf) (body : Optio
       (first between last : F) (total_of : TotalOf numbers left total) where
     pub texts_ok : (bytes : List ℕ) (typed : ColumnValues) → new.version ≡ old.version → length numbers ≡ n
         → column_of flags typed ≡ map (value_by (λ t. value.Text t)) (woven flags (slices 0 (map unsigned_abs numbers) bytes))
-        → Draws rest fed count plan first between (LengthsGoOn old new) (LengthsRefuse old n left) (Ok numbers)
-        → Draws rest fed count plan between last (BodyTaken total) (BodyShort total) (Ok bytes)
-        → Draws rest fed count plan first last (ValuesGoOn size flags (reader_of old body left) (reader_of new body (left - total))) (ValuesBreak size (present_count flags) (reader_of old body left)) (Ok typed)
+        → Draws rest fed count plan (alone plan.length) first between (LengthsGoOn old new) (LengthsRefuse old n left) (Ok numbers)
+        → Draws rest fed count plan (alone plan.body) between last (BodyTaken total) (BodyShort total) (Ok bytes)
+        → Draws rest fed count plan (plan.length ∷ alone plan.body) first last (ValuesGoOn size flags (reader_of old body left) (reader_of new body (left - total))) (ValuesBreak size (present_count flags) (reader_of old body left)) (Ok typed)
     texts_ok bytes typed version len rows one two =
         Draws-ok rest fed count plan lost nothing joined first last
         (λ b a y. (m : Streams) × LengthsGoOn old new b m numbers × BodyTaken total m a y) (ValuesGoOn size flags (reader_of old body left) (reader_of new body (left - total)))
@@ -111,9 +113,9 @@ module _ (size n : ℕ) (flags : List Bool) (old new : IntegersOf) (body : Optio
         (Draws-then rest fed count plan lost nothing joined first between last (LengthsGoOn old new) (BodyTaken total) (LengthsRefuse old n left) (BodyShort total) numbers (Ok bytes) one two)
 
     pub texts_fault : (after : ValueReader) (fault : ColumnFault)
-        → Draws rest fed count plan first between (LengthsGoOn old new) (LengthsRefuse old n left) (Ok numbers)
-        → Draws {Y = List ℕ} rest fed count plan between last (BodyTaken total) (BodyShort total) (Err fault)
-        → Draws rest fed count plan first last (ValuesGoOn size flags (reader_of old body left) after) (ValuesBreak size (present_count flags) (reader_of old body left)) (Err fault)
+        → Draws rest fed count plan (alone plan.length) first between (LengthsGoOn old new) (LengthsRefuse old n left) (Ok numbers)
+        → Draws {Y = List ℕ} rest fed count plan (alone plan.body) between last (BodyTaken total) (BodyShort total) (Err fault)
+        → Draws rest fed count plan (plan.length ∷ alone plan.body) first last (ValuesGoOn size flags (reader_of old body left) after) (ValuesBreak size (present_count flags) (reader_of old body left)) (Err fault)
     texts_fault after fault one two =
         Draws-fault rest fed count plan lost nothing joined first last
         (λ b a y. (m : Streams) × LengthsGoOn old new b m numbers × BodyTaken total m a y) (ValuesGoOn size flags (reader_of old body left) after)

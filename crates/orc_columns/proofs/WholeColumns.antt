@@ -10,10 +10,10 @@ use Rattle.orc_columns.specs.Midway.{ValuesBetween, spelling_in}
 use Rattle.orc_columns.proofs.ReadingRows.{given_are_present}
 
 given_are_values : (size : ℕ) (start : Streams) (given : List Value) (v : ValueReader) (rest : Streams) → ValuesBetween size start given v rest → AreValues (spelling_in v) size start given
-given_are_values size start given (reader.Bits b) rest (bits, at, is) = (bits, rest.body, (b.held, at), is)
-given_are_values size start given (reader.Integers i) rest (numbers, at, is) = (numbers, (rest.body, (i.held, at)), is)
-given_are_values size start given (reader.Texts t) rest (lengths, at, whole, left, is) = (lengths, record { spelled = (rest.lengths, (t.lengths.held, at)); within = omega arith }, is)
-given_are_values size start given (reader.Dictionary d) rest (lengths, numbers, sized, are, entries, at, below, is) =
+given_are_values size start given (reader.Bits b) rest (bits, at, is, left) = (bits, rest.body, (b.held, at), is)
+given_are_values size start given (reader.Integers i) rest (numbers, at, is, left) = (numbers, (rest.body, (i.held, at)), is)
+given_are_values size start given (reader.Texts t) rest (lengths, at, whole, left, is, others) = (lengths, record { spelled = (rest.lengths, (t.lengths.held, at)); within = omega arith }, is)
+given_are_values size start given (reader.Dictionary d) rest (lengths, numbers, sized, are, entries, at, below, is, used, left) =
     (lengths, numbers, sized, are, (rest.body, (d.places.held, at)), below, is ∙ ap (λ (e : List (List ℕ)). map (entry_text e) (places_of numbers)) entries)
 
 pub gives_the_column : GivesTheColumn

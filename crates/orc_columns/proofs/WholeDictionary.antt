@@ -1,11 +1,11 @@
 -- A dictionary that is read whole.
-use Rattle.std.proofs.Common.{◌≡◌, ℕ, ◌+◌, ◌≤◌, Bool, false, List, [], ◌++◌, length, map, take, drop, sum, Option, Ok, Err, ℤ, pos, unsigned_abs, refl, sym, ◌∙◌, ap, subst, arith, append_assoc, append-nil, length-append}
+use Rattle.std.proofs.Common.{◌≡◌, ℕ, ◌+◌, ◌≤◌, Bool, false, List, [], ◌∷◌, ◌++◌, length, map, take, drop, sum, Option, Ok, Err, ℤ, pos, unsigned_abs, refl, sym, ◌∙◌, ap, subst, arith, append_assoc, append-nil, length-append}
 use Rattle.std.specs.Prelude.{Result}
 use Rattle.std.proofs.lemmas.List.{length-map, length-take-le, take-append-drop}
 use Rattle.outside.specs.declared.run_fault.RunFault.{RunFault}
 use Rattle.outside.specs.Feed.{Taken, Lost, taken_of}
 use Rattle.outside.specs.Reading.{Reader, placed}
-use Rattle.outside.specs.Runs.{Between, Breaks}
+use Rattle.outside.specs.Runs.{Between, Breaks, Spells}
 use Rattle.outside.proofs.Runs.{Between-start}
 use Rattle.orc_values.specs.Texts.{slices, texts_from, running_ends, AreEnds}
 use Rattle.orc_values.specs.TextsLaws.{slices-ends, slices-front, AreEnds-running_ends}
@@ -13,13 +13,14 @@ use Rattle.orc_columns.specs.declared.fault.ColumnFault.{ColumnFault}
 use Rattle.orc_columns.specs.declared.plan.ColumnPlan.{ColumnPlan}
 use Rattle.orc_columns.specs.declared.spelling.Version.{Version}
 use Rattle.orc_columns.specs.Batches.{LengthsGoOn, LengthsBreak, LengthsRefuse, TotalOf, EntriesRead, EntriesFail}
-use Rattle.orc_columns.specs.Column.{Streams, AreNumbers, LengthsFail}
+use Rattle.orc_columns.specs.Column.{Streams, LengthsFail}
 use Rattle.orc_columns.specs.Decoders.{IntegersOf}
 use Rattle.orc_columns.specs.Draws.{Draws, Tells}
 use Rattle.orc_columns.specs.Entries.{LengthsRead}
 use Rattle.orc_columns.specs.Spelling.{IntRun, int_run}
+use Rattle.orc_columns.specs.Turns.{alone}
 use Rattle.orc_columns.specs.Takes.{DictionaryTaken, DictionaryShort}
-use Rattle.orc_columns.proofs.Drawing.{Draws-then, Draws-ok, Draws-fault}
+use Rattle.orc_columns.proofs.Drawing.{Draws-then, Draws-ok, Draws-fault, Draws-again}
 use Rattle.orc_columns.proofs.TextLengths.{lengths_are, unsigned_of}
 
 -- ---- lengths, a batch at a time
@@ -61,24 +62,24 @@ module _ {F : Type 0} (rest : F → ℕ → Option (List ℕ)) (fed : F → List
     (lost : (first last : F) (takes : List Taken) (stream : ℕ) → fed first takes last → Lost (taken_of stream takes) (rest first stream) (rest last stream))
     (nothing : (feed : F) → fed feed [] feed) (joined : (first between last : F) (xs ys : List Taken) → fed first xs between → fed between ys last → fed first (xs ++ ys) last) where
   pub lengths_more : (old mid new : IntegersOf) (n k : ℕ) (first between last : F) (items more all : List ℤ) → mid.version ≡ old.version → mid.signed ≡ old.signed → all ≡ items ++ more
-      → Draws rest fed count plan first between (LengthsGoOn old mid) (LengthsBreak old n) (Ok items) → Draws rest fed count plan between last (LengthsGoOn mid new) (LengthsBreak mid k) (Ok more)
-      → Draws rest fed count plan first last (LengthsGoOn old new) (LengthsBreak old (length all)) (Ok all)
-  lengths_more old mid new n k first between last items more all version signed is one two =
-      Draws-ok rest fed count plan lost nothing joined first last
+      → Draws rest fed count plan (alone plan.length) first between (LengthsGoOn old mid) (LengthsBreak old n) (Ok items) → Draws rest fed count plan (alone plan.length) between last (LengthsGoOn mid new) (LengthsBreak mid k) (Ok more)
+      → Draws rest fed count plan (alone plan.length) first last (LengthsGoOn old new) (LengthsBreak old (length all)) (Ok all)
+  lengths_more old mid new n k first between last items more all version signed is one two = Draws-again rest fed count plan lost nothing joined plan.length first last (LengthsGoOn old new) (LengthsBreak old (length all)) (Ok all)
+      (Draws-ok rest fed count plan lost nothing joined first last
       (λ b a y. (m : Streams) × LengthsGoOn old mid b m items × LengthsGoOn mid new m a y) (LengthsGoOn old new)
       (λ b f. (m : Streams) × LengthsGoOn old mid b m items × LengthsBreak mid k m f) (LengthsBreak old (length all)) more all
       (λ b a tells goes. subst (λ (l : List ℤ). LengthsGoOn old new b a l) (sym is) (more_go old mid new b goes.0 a items more version signed goes.1 goes.2))
-      (Draws-then rest fed count plan lost nothing joined first between last (LengthsGoOn old mid) (LengthsGoOn mid new) (LengthsBreak old n) (LengthsBreak mid k) items (Ok more) one two)
+      (Draws-then rest fed count plan lost nothing joined first between last (LengthsGoOn old mid) (LengthsGoOn mid new) (LengthsBreak old n) (LengthsBreak mid k) items (Ok more) one two))
 
   pub lengths_stop : (old mid new : IntegersOf) (n k size : ℕ) (first between last : F) (items : List ℤ) (fault : ColumnFault) → mid.version ≡ old.version → mid.signed ≡ old.signed → length items + k ≤ size
-      → Draws rest fed count plan first between (LengthsGoOn old mid) (LengthsBreak old n) (Ok items) → Draws {Y = List ℤ} rest fed count plan between last (LengthsGoOn mid new) (LengthsBreak mid k) (Err fault)
-      → Draws {Y = List ℤ} rest fed count plan first last (LengthsGoOn old new) (LengthsBreak old size) (Err fault)
-  lengths_stop old mid new n k size first between last items fault version signed h one two =
-      Draws-fault rest fed count plan lost nothing joined first last
+      → Draws rest fed count plan (alone plan.length) first between (LengthsGoOn old mid) (LengthsBreak old n) (Ok items) → Draws {Y = List ℤ} rest fed count plan (alone plan.length) between last (LengthsGoOn mid new) (LengthsBreak mid k) (Err fault)
+      → Draws {Y = List ℤ} rest fed count plan (alone plan.length) first last (LengthsGoOn old new) (LengthsBreak old size) (Err fault)
+  lengths_stop old mid new n k size first between last items fault version signed h one two = Draws-again rest fed count plan lost nothing joined plan.length first last (LengthsGoOn old new) (LengthsBreak old size) (Err fault)
+      (Draws-fault rest fed count plan lost nothing joined first last
       (λ b a y. (m : Streams) × LengthsGoOn old mid b m items × LengthsGoOn mid new m a y) (LengthsGoOn old new)
       (λ b f. (m : Streams) × LengthsGoOn old mid b m items × LengthsBreak mid k m f) (LengthsBreak old size) fault
       (λ b f tells breaks. break_later old mid k size b breaks.0 items f version signed h breaks.1 breaks.2)
-      (Draws-then rest fed count plan lost nothing joined first between last (LengthsGoOn old mid) (LengthsGoOn mid new) (LengthsBreak old n) (LengthsBreak mid k) items (Err fault) one two)
+      (Draws-then rest fed count plan lost nothing joined first between last (LengthsGoOn old mid) (LengthsGoOn mid new) (LengthsBreak old n) (LengthsBreak mid k) items (Err fault) one two))
 
   -- ---- all lengths
 
@@ -100,12 +101,12 @@ module _ {F : Type 0} (rest : F → ℕ → Option (List ℕ)) (fed : F → List
       record {
         only = on.0;
         all = len;
-        spelled = subst (λ (v : Version). AreNumbers v false b.lengths numbers) of_version (a.lengths, (new.held, here));
+        spelled = subst (λ (v : Version). Spells (IntRun v false) b.lengths numbers a.lengths) of_version (new.held, here);
       }
 
   pub entries_judged : (i new : IntegersOf) (version : Version) (n room : ℕ) (first last : F) (numbers : List ℤ) (answer : Result ℕ ColumnFault) → i.held ≡ [] → i.version ≡ version → i.signed ≡ false → length numbers ≡ n
       → ((s : Streams) → Tells rest first plan s → room ≡ length s.dictionary)
-      → Draws rest fed count plan first last (LengthsGoOn i new) (LengthsRefuse i n room) (placed numbers answer) → Draws rest fed count plan first last (LengthsRead version n) (EntriesFail version n) (placed numbers answer)
+      → Draws rest fed count plan (alone plan.length) first last (LengthsGoOn i new) (LengthsRefuse i n room) (placed numbers answer) → Draws rest fed count plan (alone plan.length) first last (LengthsRead version n) (EntriesFail version n) (placed numbers answer)
   entries_judged i new version n room first last numbers (Ok total) none of_version unsigned len room_is d =
       Draws-ok rest fed count plan lost nothing joined first last (LengthsGoOn i new) (LengthsRead version n) (LengthsRefuse i n room) (EntriesFail version n) numbers numbers
       (λ b a tells goes. all_read i new version n b a numbers none of_version unsigned len goes) d
@@ -133,22 +134,25 @@ module _ {F : Type 0} (rest : F → ℕ → Option (List ℕ)) (fed : F → List
       let lens : List ℕ = map unsigned_abs numbers in
       let enough : total ≤ length b.dictionary = omega (arith, of.within, room_is) in
       let bytes_are : bytes ≡ take total b.dictionary = took.bytes_are ∙ ap (λ (l : List ℕ). take total l) read.only.2 in
+      let spelled : Spells (IntRun version false) b.lengths (map pos lens) m.lengths = subst (λ (l : List ℤ). Spells (IntRun version false) b.lengths l m.lengths) (sym (lengths_are numbers of.positive)) read.spelled in
       record {
         lengths = lens;
         present = took.only.0 ∙ read.only.0;
         body = took.only.1 ∙ read.only.1;
         all = length-map numbers unsigned_abs ∙ read.all;
         are = record {
-          spelled = subst (λ (l : List ℤ). AreNumbers version false b.lengths l) (sym (lengths_are numbers of.positive)) read.spelled;
+          spelled = (m.lengths, spelled);
           within = omega (arith, of.total_is, enough);
         };
         entries_are = texts_are lens ends bytes b.dictionary total of.total_is enough ends_are bytes_are;
+        used = subst (λ (l : List ℕ). Spells (IntRun version false) b.lengths (map pos lens) l) (sym took.only.2) spelled;
+        left = took.left ∙ ap (λ (l : List ℕ). drop total l) read.only.2 ∙ ap (λ (n : ℕ). drop n b.dictionary) of.total_is;
       }
 
   module _ (version : Version) (n room total : ℕ) (numbers : List ℤ) (of : TotalOf numbers room total) (first between last : F) (room_is : (s : Streams) → Tells rest first plan s → room ≡ length s.dictionary)
-      (one : Draws rest fed count plan first between (LengthsRead version n) (EntriesFail version n) (Ok numbers)) where
+      (one : Draws rest fed count plan (alone plan.length) first between (LengthsRead version n) (EntriesFail version n) (Ok numbers)) where
     pub dictionary_read : (ends bytes : List ℕ) (texts : List (List ℕ)) → ends ≡ running_ends 0 (map unsigned_abs numbers) → texts ≡ texts_from 0 ends bytes
-        → Draws rest fed count plan between last (DictionaryTaken total) (DictionaryShort total) (Ok bytes) → Draws rest fed count plan first last (EntriesRead version n) (EntriesFail version n) (Ok texts)
+        → Draws rest fed count plan (alone plan.dictionary) between last (DictionaryTaken total) (DictionaryShort total) (Ok bytes) → Draws rest fed count plan (plan.length ∷ alone plan.dictionary) first last (EntriesRead version n) (EntriesFail version n) (Ok texts)
     dictionary_read ends bytes texts ends_are texts_is two =
         Draws-ok rest fed count plan lost nothing joined first last
         (λ b a y. (m : Streams) × LengthsRead version n b m numbers × DictionaryTaken total m a y) (EntriesRead version n)
@@ -160,7 +164,7 @@ module _ {F : Type 0} (rest : F → ℕ → Option (List ℕ)) (fed : F → List
     never_short b m fault tells read short = absurd (omega (arith, ap length read.only.2, of.within, room_is b tells, short))
 
     pub dictionary_fault : (fault : ColumnFault)
-        → Draws {Y = List ℕ} rest fed count plan between last (DictionaryTaken total) (DictionaryShort total) (Err fault) → Draws {Y = List (List ℕ)} rest fed count plan first last (EntriesRead version n) (EntriesFail version n) (Err fault)
+        → Draws {Y = List ℕ} rest fed count plan (alone plan.dictionary) between last (DictionaryTaken total) (DictionaryShort total) (Err fault) → Draws {Y = List (List ℕ)} rest fed count plan (plan.length ∷ alone plan.dictionary) first last (EntriesRead version n) (EntriesFail version n) (Err fault)
     dictionary_fault fault two =
         Draws-fault rest fed count plan lost nothing joined first last
         (λ b a y. (m : Streams) × LengthsRead version n b m numbers × DictionaryTaken total m a y) (EntriesRead version n)

@@ -1,7 +1,7 @@
 -- A batch of a column: what filling it makes of the values that were given before. Source: this project's own.
-use Rattle.std.specs.Prelude.{◌≡◌, ℕ, ◌+◌, ◌<◌, ◌≤◌, Bool, true, false, List, [], ◌++◌, length, map, sum, pos, unsigned_abs, All, Contains, None, IsTrue, ℤ}
+use Rattle.std.specs.Prelude.{◌≡◌, ℕ, ◌+◌, ◌<◌, ◌≤◌, Bool, true, false, List, [], ◌++◌, length, map, drop, sum, pos, unsigned_abs, All, Contains, None, IsTrue, ℤ}
 use Rattle.std.specs.Int.{IsNonNegative}
-use Rattle.outside.specs.Runs.{Between}
+use Rattle.outside.specs.Runs.{Between, Spells}
 use Rattle.outside.specs.declared.run_fault.RunFault.TheVariants as run
 use Rattle.orc_rle.specs.BitRun.{BitRun, bit_run}
 use Rattle.orc_values.specs.declared.column_values.ColumnValues.{ColumnValues}
@@ -147,7 +147,8 @@ ValuesBegin size before after values = (after.present ≡ before.present) × Val
 abbrev pub ValuesFailAtStart : ℕ → Spelling → Streams → ColumnFault → Type 0
 ValuesFailAtStart size spelling before fault = ValuesFail size before 0 spelling fault
 
--- the entries of a dictionary were read whole
+-- The entries of a dictionary were read whole: of LENGTH the fewest runs that spell so many lengths were taken, and of
+-- DICTIONARY_DATA their sum.
 pub record EntriesRead (version : Version) (size : ℕ) (before after : Streams) (entries : List (List ℕ)) : Type 0 where
   pub lengths : List ℕ
   pub present : after.present ≡ before.present
@@ -155,6 +156,8 @@ pub record EntriesRead (version : Version) (size : ℕ) (before after : Streams)
   pub all : length lengths ≡ size
   pub are : AreLengths version before.lengths (length before.dictionary) lengths
   pub entries_are : entries ≡ slices 0 lengths before.dictionary
+  pub used : Spells (IntRun version false) before.lengths (map pos lengths) after.lengths
+  pub left : after.dictionary ≡ drop (sum lengths) before.dictionary
 
 -- the fault is the first of so many entries
 abbrev pub EntriesFail : Version → ℕ → Streams → ColumnFault → Type 0

@@ -13,6 +13,7 @@ use Rattle.orc_columns.specs.declared.fault.StreamName.{StreamName}
 use Rattle.orc_columns.specs.declared.plan.ColumnPlan.{ColumnPlan}
 use Rattle.orc_columns.specs.Column.{Streams}
 use Rattle.orc_columns.specs.Optional.{rest_in}
+use Rattle.orc_columns.specs.Turns.{InTurn}
 
 -- the number of one of the plan's streams
 abbrev pub IsOfPlan : ColumnPlan → ℕ → Type 0
@@ -72,12 +73,13 @@ module _ {F Y : Type 0} (rest : F → ℕ → Option (List ℕ)) (fed : F → Li
   Said Goes Faults before last (Ok y) = (after : Streams) × Tells rest last plan after × Goes before after y
   Said Goes Faults before last (Err fault) = Decided (Faults before) fault
 
-  -- A call took from the plan's streams alone, a failed read has its cause, and where the streams were told, an Ok says
-  -- this of the bytes before and after, and a fault that of those before.
-  pub record Draws (first last : F) (Goes : Streams → Streams → Y → Type 0) (Faults : Streams → ColumnFault → Type 0) (answer : Result Y ColumnFault) : Type 0 where
+  -- Whatever it answered, a call took from these of the plan's streams in turn, and from no other; a failed read has its
+  -- cause; and where the streams were told, an Ok says this of the bytes before and after, and a fault that of those before.
+  pub record Draws (streams : List (Option ℕ)) (first last : F) (Goes : Streams → Streams → Y → Type 0) (Faults : Streams → ColumnFault → Type 0) (answer : Result Y ColumnFault) : Type 0 where
     pub takes : List Taken
     pub led : fed first takes last
     pub own : AllOfPlan plan takes
+    pub turns : InTurn streams takes
     pub cause : Cause (count first) (count last) (FailedToRead answer)
     pub told : (before : Streams) → Tells rest first plan before → Said Goes Faults before last answer
 

@@ -1,11 +1,13 @@
 -- The entries of a dictionary, and the texts of rows by their numbers. Source: this project's own.
 use Rattle.std.specs.Prelude.{◌≡◌, ℕ, ◌≤◌, Bool, false, List, [], length, map, ℤ, Contains, slice_index_or}
 use Rattle.std.specs.Option.{unwrap_or}
+use Rattle.outside.specs.Runs.{Spells}
 use Rattle.orc_values.specs.Woven.{woven}
 use Rattle.orc_columns.specs.declared.fault.ColumnFault.{ColumnFault}
 use Rattle.orc_columns.specs.declared.fault.ColumnFault.TheVariants.{BadEncoding, Run, NegativeLength, LengthsPastData, IndexOutOfDictionary, Read, NoMemory}
 use Rattle.orc_columns.specs.declared.spelling.Version.{Version}
-use Rattle.orc_columns.specs.Column.{Streams, AreNumbers, places_of}
+use Rattle.orc_columns.specs.Column.{Streams, places_of}
+use Rattle.orc_columns.specs.Spelling.{IntRun}
 use Rattle.orc_columns.specs.Draws.{OnlyLengths}
 
 -- the entries of these numbers
@@ -26,8 +28,8 @@ IsOutOf entries numbers IndexOutOfDictionary = (place : ℕ) × Contains (places
 IsOutOf entries numbers (Read failed) = ⊥
 IsOutOf entries numbers NoMemory = Unit {0}
 
--- the numbers of the lengths of all entries were read
+-- the numbers of the lengths of all entries were read, and of LENGTH no more than the fewest runs that spell them
 pub record LengthsRead (version : Version) (size : ℕ) (before after : Streams) (numbers : List ℤ) : Type 0 where
   pub only : OnlyLengths before after
   pub all : length numbers ≡ size
-  pub spelled : AreNumbers version false before.lengths numbers
+  pub spelled : Spells (IntRun version false) before.lengths numbers after.lengths

@@ -13,41 +13,44 @@ use Rattle.orc_columns.specs.declared.spelling.Spelling.{Spelling}
 use Rattle.orc_columns.specs.declared.spelling.Version.{Version}
 use Rattle.orc_columns.specs.Batches.{HoldsNoRead}
 use Rattle.orc_columns.specs.Column.{Streams, ArePresent, PresentBreaks, AreLengths, AreValues, IsColumn, Fails}
-use Rattle.orc_columns.specs.Draws.{AllOfPlan, Tells, FailedToRead, OnlyPresent, OnlyLengths}
+use Rattle.orc_columns.specs.Draws.{AllOfPlan, Tells, IsReadError, FailedToRead, OnlyPresent, OnlyLengths}
+use Rattle.orc_columns.specs.Turns.{InTurn, judged_streams}
 
 -- the column has values in so many rows, or this is the first condition that refuses it
 abbrev pub Finds : ColumnPlan → ℕ → Streams → Option ColumnFault → Type 0
 Finds plan rows s None = (values : List Value) × (length values ≡ rows) × IsColumn plan s values
 Finds plan rows s (Some fault) = Fails plan s rows fault
 
--- the feed failed, or memory was refused
-abbrev pub IsUndecided : ColumnFault → Type 0
-IsUndecided (Read failed) = Unit {0}
-IsUndecided NoMemory = Unit {0}
-IsUndecided BadEncoding = ⊥
-IsUndecided (Run name fault) = ⊥
-IsUndecided NegativeLength = ⊥
-IsUndecided LengthsPastData = ⊥
-IsUndecided IndexOutOfDictionary = ⊥
+-- a fault that judging answers: a run's isn't the feed's, and memory is never wanted
+abbrev pub IsJudged : ColumnFault → Type 0
+IsJudged (Read failed) = Unit {0}
+IsJudged NoMemory = ⊥
+IsJudged BadEncoding = Unit {0}
+IsJudged (Run name fault) = HoldsNoRead (Run name fault)
+IsJudged NegativeLength = Unit {0}
+IsJudged LengthsPastData = Unit {0}
+IsJudged IndexOutOfDictionary = Unit {0}
 
 -- what was found by a fault
 abbrev pub found_by : ColumnFault → Result (Option ColumnFault) ColumnFault
 found_by (Read failed) = Err (Read failed)
-found_by NoMemory = Err NoMemory
+found_by NoMemory = Ok (Some NoMemory)
 found_by BadEncoding = Ok (Some BadEncoding)
 found_by (Run name fault) = Ok (Some (Run name fault))
 found_by NegativeLength = Ok (Some NegativeLength)
 found_by LengthsPastData = Ok (Some LengthsPastData)
 found_by IndexOutOfDictionary = Ok (Some IndexOutOfDictionary)
 
--- A column was judged: takes are of its plan's streams alone, an error is that the feed failed, by its cause, or that memory
--- was refused, no run's fault that is found is the feed's, and where the streams were told, the answer is what is found of them.
+-- A column was judged, told or not: takes are of its plan's streams alone, in turn, each over all rows before the next; an
+-- error is that the feed failed, by its cause, and never want of memory; no run's fault that is found is the feed's; and where
+-- the streams were told, the answer is what is found of them.
 pub record Judges {F : Type 0} (rest : F → ℕ → Option (List ℕ)) (fed : F → List Taken → F → Type 0) (count : F → ℕ) (plan : ColumnPlan) (rows : ℕ) (first last : F) (answer : Result (Option ColumnFault) ColumnFault) : Type 0 where
   pub takes : List Taken
   pub led : fed first takes last
   pub own : AllOfPlan plan takes
+  pub turns : InTurn (judged_streams plan) takes
   pub cause : Cause (count first) (count last) (FailedToRead answer)
-  pub undecided : IfErr answer IsUndecided
+  pub failed : IfErr answer IsReadError
   pub no_read : IfOk answer (λ found. IfSome found HoldsNoRead)
   pub told : (s : Streams) → Tells rest first plan s → IfOk answer (Finds plan rows s)
 

@@ -13,3 +13,4 @@ pub mod Present
 pub mod Reader
 pub mod Spelling
 pub mod Takes
+pub mod Turns

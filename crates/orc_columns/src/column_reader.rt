@@ -1,5 +1,5 @@
 //! A column of a stripe, batch by batch.
-ghost use Rattle.std.specs.Prelude.{◌≡◌, ◌≤◌, length, Some, None, Err, All, OnOk, IfOk, IfErr};
+ghost use Rattle.std.specs.Prelude.{◌≡◌, ◌∷◌, ◌≤◌, [], length, Some, None, Err, All, OnOk, IfOk, IfErr};
 ghost use Rattle.std.specs.Result.{result_err};
 ghost use Rattle.outside.specs.Reading.{placed};
 ghost use Rattle.orc_columns.specs.declared.fault.ColumnFault.{ColumnFault};
@@ -9,6 +9,7 @@ ghost use Rattle.orc_columns.specs.Draws.{StreamsDiffer, Draws};
 ghost use Rattle.orc_columns.specs.Midway.{spelling_in};
 ghost use Rattle.orc_columns.specs.Reader.{IsReady, whole_reader, RowsGoOn, RowsFail, Begins, FailsAtStart, HasLengths};
 ghost use Rattle.orc_columns.specs.Spelling.{spelling_of};
+ghost use Rattle.orc_columns.specs.Turns.{value_streams, batch_streams, start_streams};
 
 use crate::fault::ColumnFault;
 use crate::fills::fill_flags;
@@ -65,7 +66,10 @@ impl ColumnReader {
         ensures plan { IfOk result (λ reader. reader.plan ≡ plan) }
         ensures fresh { IfOk result (λ reader. reader.fault ≡ None) }
         ensures no_read { IfErr result HoldsNoRead }
-        ensures draws { Draws F.rest F.fed F.fault_count plan feed.old feed.new Begins (FailsAtStart plan) result }
+
+        // Of LENGTH and then of DICTIONARY_DATA it takes what the dictionary's entries use, and without a dictionary nothing.
+        ensures draws { Draws F.rest F.fed F.fault_count plan (start_streams plan) feed.old feed.new Begins (FailsAtStart plan) result }
+        ensures idle { start_streams plan ≡ [] → feed.new ≡ feed.old }
     {
         let Some(spelling) = spelling_of(plan.kind, plan.encoding) else {
             return Err(ColumnFault::BadEncoding);
@@ -110,7 +114,7 @@ impl ColumnReader {
 
         // Before a fault the rows are the next of the column, or the column has none so far.
         ensures draws { self.old.fault ≡ None →
-            Draws F.rest F.fed F.fault_count self.old.plan feed.old feed.new
+            Draws F.rest F.fed F.fault_count self.old.plan (batch_streams self.old.plan) feed.old feed.new
             (RowsGoOn self.old self.new) (RowsFail self.old rows) (placed out.new result) }
     {
         if let Some(fault) = self.fault {
@@ -138,12 +142,11 @@ fn fill_rows<F: Feed>(
     ensures kinds { (plan : ColumnPlan) → spelling_of plan.kind plan.encoding ≡ Some (spelling_in values.old) → OnOk result (All (IsOfKind plan.kind) out.new) }
     ensures no_read { IfErr result HoldsNoRead }
     ensures draws { (plan : ColumnPlan) → StreamsDiffer plan → IsReady plan present.old values.old →
-        Draws F.rest F.fed F.fault_count plan feed.old feed.new
+        Draws F.rest F.fed F.fault_count plan (plan.present ∷ value_streams plan (spelling_in values.old)) feed.old feed.new
         (RowsGoOn (whole_reader plan present.old values.old) (whole_reader plan present.new values.new))
         (RowsFail (whole_reader plan present.old values.old) rows) (placed out.new result) }
 {
     let (mut flags, older) = mem::replace(out, Column::empty(alloc)).into_parts();
-    flags.clear();
     flags.resize(rows as usize, false)?;
     fill_flags(present, feed, &mut flags)?;
     let typed = values.fill(alloc, feed, &flags, older)?;

@@ -1,5 +1,5 @@
 //! Texts of a dictionary.
-ghost use Rattle.std.specs.Prelude.{◌≡◌, ◌<◌, ◌≤◌, ◌^◌, ℕ, [], length, map, sum, unsigned_abs, All, Contains, OnOk, IfOk, IfErr, IsTrue, IsFalse};
+ghost use Rattle.std.specs.Prelude.{◌≡◌, ◌∷◌, ◌<◌, ◌≤◌, ◌^◌, ℕ, [], length, map, sum, unsigned_abs, All, Contains, OnOk, IfOk, IfErr, IsTrue, IsFalse};
 ghost use Rattle.std.specs.Int.{w64, cast_unsigned, IsNonNegative};
 ghost use Rattle.outside.specs.Reading.{placed};
 ghost use Rattle.orc_values.specs.Texts.{running_ends};
@@ -14,6 +14,7 @@ ghost use Rattle.orc_columns.specs.Batches.{HoldsNoRead, IsTyped, TotalOf, Reads
 ghost use Rattle.orc_columns.specs.Draws.{StreamsDiffer, Draws};
 ghost use Rattle.orc_columns.specs.Midway.{spelling_in};
 ghost use Rattle.orc_columns.specs.Reader.{HasLengths};
+ghost use Rattle.orc_columns.specs.Turns.{alone};
 
 use crate::entry_lengths::push_all_lengths;
 use crate::fault::ColumnFault;
@@ -51,7 +52,7 @@ pub(crate) fn dictionary_rows<F: Feed>(
     ensures ready { (plan : ColumnPlan) → ReadsPlan plan (reader.Dictionary dictionary.old) → OnOk result (ReadsPlan plan (reader.Dictionary dictionary.new)) }
     ensures no_read { IfErr result HoldsNoRead }
     ensures draws { (plan : ColumnPlan) → StreamsDiffer plan → ReadsPlan plan (reader.Dictionary dictionary.old) →
-        Draws F.rest F.fed F.fault_count plan feed.old feed.new
+        Draws F.rest F.fed F.fault_count plan (alone plan.body) feed.old feed.new
         (ValuesGoOn plan.dictionary_size flags.now (reader.Dictionary dictionary.old) (reader.Dictionary dictionary.new))
         (ValuesBreak plan.dictionary_size (present_count flags.now) (reader.Dictionary dictionary.old)) result }
 {
@@ -161,7 +162,7 @@ pub(crate) fn read_entries<F: Feed>(
     requires differ { StreamsDiffer plan }
     requires lens { HasLengths F.rest feed.old plan }
     ensures no_read { IfErr result HoldsNoRead }
-    ensures draws { Draws F.rest F.fed F.fault_count plan feed.old feed.new
+    ensures draws { Draws F.rest F.fed F.fault_count plan (plan.length ∷ alone plan.dictionary) feed.old feed.new
         (EntriesRead version plan.dictionary_size) (EntriesFail version plan.dictionary_size) result }
 {
     let mut lengths = Vec::new(alloc);
@@ -184,7 +185,7 @@ fn entry_lengths<F: Feed>(
     requires none { lengths.old.items ≡ [] }
     ensures total { IfOk result (TotalOf lengths.new.items plan.dictionary_len) }
     ensures no_read { IfErr result HoldsNoRead }
-    ensures draws { Draws F.rest F.fed F.fault_count plan feed.old feed.new
+    ensures draws { Draws F.rest F.fed F.fault_count plan (alone plan.length) feed.old feed.new
         (LengthsRead version plan.dictionary_size) (EntriesFail version plan.dictionary_size) (placed lengths.new.items result) }
 {
     let mut integers = Integers::new(plan.length, version, false);

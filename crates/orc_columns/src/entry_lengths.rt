@@ -4,6 +4,7 @@ ghost use Rattle.outside.specs.Reading.{placed};
 ghost use Rattle.orc_columns.specs.declared.plan.ColumnPlan.{ColumnPlan};
 ghost use Rattle.orc_columns.specs.Batches.{HoldsNoRead, LengthsGoOn, LengthsBreak};
 ghost use Rattle.orc_columns.specs.Draws.{StreamsDiffer, Draws};
+ghost use Rattle.orc_columns.specs.Turns.{alone};
 
 use crate::fault::ColumnFault;
 use crate::fills::{BATCH, fill_lengths};
@@ -21,7 +22,7 @@ pub(crate) fn push_all_lengths<F: Feed>(
     ensures len { OnOk result (length into.new.items ≡ count) }
     ensures no_read { IfErr result HoldsNoRead }
     ensures draws { (plan : ColumnPlan) → StreamsDiffer plan → integers.old.stream ≡ plan.length → integers.old.fault ≡ None →
-        Draws F.rest F.fed F.fault_count plan feed.old feed.new
+        Draws F.rest F.fed F.fault_count plan (alone plan.length) feed.old feed.new
         (LengthsGoOn integers.old integers.new) (LengthsBreak integers.old count) (placed into.new.items result) }
 {
     let mut open = count;
@@ -49,7 +50,7 @@ fn push_lengths<F: Feed>(
     ensures kept { OnOk result (into.new.items ≡ into.old.items ++ drop (length into.old.items) into.new.items) }
     ensures no_read { IfErr result HoldsNoRead }
     ensures draws { (plan : ColumnPlan) → StreamsDiffer plan → integers.old.stream ≡ plan.length → integers.old.fault ≡ None →
-        Draws F.rest F.fed F.fault_count plan feed.old feed.new
+        Draws F.rest F.fed F.fault_count plan (alone plan.length) feed.old feed.new
         (LengthsGoOn integers.old integers.new) (LengthsBreak integers.old count) (placed (drop (length into.old.items) into.new.items) result) }
 {
     let mut lengths = [0; BATCH];

@@ -4,6 +4,7 @@ ghost use Rattle.outside.specs.Reading.{placed};
 ghost use Rattle.orc_columns.specs.declared.plan.ColumnPlan.{ColumnPlan};
 ghost use Rattle.orc_columns.specs.Batches.{HoldsNoRead, FlagsGoOn, FlagsBreak, NumbersGoOn, NumbersBreak, LengthsGoOn, LengthsBreak, BitsGoOn, BitsBreak};
 ghost use Rattle.orc_columns.specs.Draws.{StreamsDiffer, Draws};
+ghost use Rattle.orc_columns.specs.Turns.{alone};
 
 use crate::bit_stream::BitStream;
 use crate::fault::{ColumnFault, StreamName, of_run};
@@ -24,7 +25,7 @@ pub(crate) fn fill_flags<F: Feed>(
     ensures whole { present.old.fault ≡ None → OnOk result (present.new.fault ≡ None) }
     ensures no_read { IfErr result HoldsNoRead }
     ensures draws { (plan : ColumnPlan) → StreamsDiffer plan → present.old.stream ≡ plan.present → present.old.fault ≡ None →
-        Draws F.rest F.fed F.fault_count plan feed.old feed.new
+        Draws F.rest F.fed F.fault_count plan (alone plan.present) feed.old feed.new
         (FlagsGoOn present.old present.new) (FlagsBreak present.old (length flags.old)) (placed flags.new result) }
 {
     match present.fill(feed, flags) {
@@ -48,7 +49,7 @@ pub(crate) fn fill_numbers<F: Feed>(
     ensures whole { integers.old.fault ≡ None → OnOk result (integers.new.fault ≡ None) }
     ensures no_read { IfErr result HoldsNoRead }
     ensures draws { (plan : ColumnPlan) → StreamsDiffer plan → integers.old.stream ≡ plan.body → integers.old.fault ≡ None →
-        Draws F.rest F.fed F.fault_count plan feed.old feed.new
+        Draws F.rest F.fed F.fault_count plan (alone plan.body) feed.old feed.new
         (NumbersGoOn integers.old integers.new) (NumbersBreak integers.old count) (placed (take count entries.new) result) }
 {
     let (front, _) = entries.split_at_mut(count);
@@ -73,7 +74,7 @@ pub(crate) fn fill_lengths<F: Feed>(
     ensures whole { integers.old.fault ≡ None → OnOk result (integers.new.fault ≡ None) }
     ensures no_read { IfErr result HoldsNoRead }
     ensures draws { (plan : ColumnPlan) → StreamsDiffer plan → integers.old.stream ≡ plan.length → integers.old.fault ≡ None →
-        Draws F.rest F.fed F.fault_count plan feed.old feed.new
+        Draws F.rest F.fed F.fault_count plan (alone plan.length) feed.old feed.new
         (LengthsGoOn integers.old integers.new) (LengthsBreak integers.old count) (placed (take count entries.new) result) }
 {
     let (front, _) = entries.split_at_mut(count);
@@ -96,7 +97,7 @@ pub(crate) fn fill_bits<F: Feed>(
     ensures whole { bits.old.fault ≡ None → OnOk result (bits.new.fault ≡ None) }
     ensures no_read { IfErr result HoldsNoRead }
     ensures draws { (plan : ColumnPlan) → StreamsDiffer plan → bits.old.stream ≡ plan.body → bits.old.fault ≡ None →
-        Draws F.rest F.fed F.fault_count plan feed.old feed.new
+        Draws F.rest F.fed F.fault_count plan (alone plan.body) feed.old feed.new
         (BitsGoOn bits.old bits.new) (BitsBreak bits.old count) (placed (take count entries.new) result) }
 {
     let (front, _) = entries.split_at_mut(count);

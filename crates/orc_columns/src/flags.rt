@@ -31,6 +31,9 @@ pub(crate) fn count_flags<F: Feed>(
         present.fill(feed, flags)?;
         set += count_present(flags) as u64;
         given += asked;
+        if present.is_empty() {
+            return Ok(set + (rows - given));
+        }
     }
     Ok(set)
 }

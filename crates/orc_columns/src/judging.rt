@@ -1,10 +1,10 @@
 //! Judging a column of a stripe, stream by stream, without its values.
-ghost use Rattle.std.specs.Prelude.{◌≡◌, Some, IfErr};
-ghost use Rattle.orc_columns.specs.Batches.{HoldsNoRead};
+ghost use Rattle.std.specs.Prelude.{◌≡◌, ◌∷◌, Some, IfErr};
 ghost use Rattle.orc_columns.specs.Column.{Streams, LengthsFail, ValuesFail, Fails};
 ghost use Rattle.orc_columns.specs.Draws.{StreamsDiffer, Tells, Draws};
-ghost use Rattle.orc_columns.specs.FirstFault.{found_by, Judges, Sized, StandingRows, NoStandingRows, JudgedLengths, JudgedValues, JudgedColumn};
+ghost use Rattle.orc_columns.specs.FirstFault.{found_by, IsJudged, Judges, Sized, StandingRows, NoStandingRows, JudgedLengths, JudgedValues, JudgedColumn};
 ghost use Rattle.orc_columns.specs.Spelling.{spelling_of as spelling_by};
+ghost use Rattle.orc_columns.specs.Turns.{alone, judged_values};
 ghost use Rattle.orc_columns.specs.declared.spelling.Spelling.TheVariants.{Bits, Integers as OfIntegers, Texts, Dictionary};
 
 use crate::bit_stream::BitStream;
@@ -23,9 +23,10 @@ const NEGATIVE: u128 = 1 << 63;
 /// The first condition that refuses a column of so many rows, or None where it has values in all of them.
 ///
 /// The conditions are judged one after the other, each over all rows: that is the order of `ColumnFault`. The
-/// feed holds the column's streams from their first byte on; it takes from them alone, first PRESENT, then LENGTH, then
-/// DATA where the values are runs, and no text is read. An `Err` is `ColumnFault::Read`, only where the feed
-/// failed in this call, or `ColumnFault::NoMemory`; it takes no memory.
+/// feed holds the column's streams from their first byte on; it takes from them alone, first from PRESENT for all rows,
+/// then from LENGTH, where the spelling has lengths, then from DATA, where its bytes are runs: no text is read. It ends once
+/// the streams' bytes have, however many rows are asked for. An `Err` is `ColumnFault::Read`, only where the feed failed in
+/// this call: no memory is taken.
 ///
 /// Source: Apache ORC specification v1, "Column Encodings"; the order of the conditions is this project's own.
 pub fn first_fault<F: Feed>(
@@ -46,12 +47,12 @@ pub fn first_fault<F: Feed>(
     }
 }
 
-/// What was found by a fault: it is the column's, unless the feed failed or memory was refused.
+/// What was found by a fault: it is the column's, unless the feed failed.
 fn found(fault: ColumnFault) -> Result<Option<ColumnFault>, ColumnFault>
     ensures { result ≡ found_by fault }
 {
     match fault {
-        ColumnFault::Read(_) | ColumnFault::NoMemory => Err(fault),
+        ColumnFault::Read(_) => Err(fault),
         _ => Ok(Some(fault)),
     }
 }
@@ -66,8 +67,8 @@ fn judge<F: Feed>(
     requires differ { StreamsDiffer plan }
     requires lens { (s : Streams) → Tells F.rest feed.old plan s → Sized plan s }
     requires spelled { spelling_by plan.kind plan.encoding ≡ Some spelling }
-    ensures no_read { IfErr result HoldsNoRead }
-    ensures draws { Draws F.rest F.fed F.fault_count plan feed.old feed.new
+    ensures judged { IfErr result IsJudged }
+    ensures draws { Draws F.rest F.fed F.fault_count plan (plan.present ∷ judged_values plan spelling) feed.old feed.new
         (λ before after _. JudgedColumn plan rows before) (λ before fault. Fails plan before rows fault) result }
 {
     let standing = standing_rows(plan, feed, rows)?;
@@ -77,8 +78,8 @@ fn judge<F: Feed>(
 /// How many rows have a value.
 fn standing_rows<F: Feed>(plan: ColumnPlan, feed: &mut F, rows: u64) -> Result<u64, ColumnFault>
     requires differ { StreamsDiffer plan }
-    ensures no_read { IfErr result HoldsNoRead }
-    ensures draws { Draws F.rest F.fed F.fault_count plan feed.old feed.new (StandingRows rows) (NoStandingRows rows) result }
+    ensures judged { IfErr result IsJudged }
+    ensures draws { Draws F.rest F.fed F.fault_count plan (alone plan.present) feed.old feed.new (StandingRows rows) (NoStandingRows rows) result }
 {
     let mut present = Present::new(plan.present);
     match count_flags(feed, &mut present, rows) {
@@ -95,8 +96,8 @@ fn judge_values<F: Feed>(
     count: u64,
 ) -> Result<(), ColumnFault>
     requires differ { StreamsDiffer plan }
-    ensures no_read { IfErr result HoldsNoRead }
-    ensures draws { Draws F.rest F.fed F.fault_count plan feed.old feed.new
+    ensures judged { IfErr result IsJudged }
+    ensures draws { Draws F.rest F.fed F.fault_count plan (judged_values plan spelling) feed.old feed.new
         (λ before after _. Sized plan before → JudgedValues spelling plan.dictionary_size count before)
         (λ before fault. Sized plan before → ValuesFail plan.dictionary_size before count spelling fault) result }
 {
@@ -110,8 +111,8 @@ fn judge_values<F: Feed>(
 
 fn judge_bits<F: Feed>(plan: ColumnPlan, feed: &mut F, count: u64) -> Result<(), ColumnFault>
     requires differ { StreamsDiffer plan }
-    ensures no_read { IfErr result HoldsNoRead }
-    ensures draws { Draws F.rest F.fed F.fault_count plan feed.old feed.new
+    ensures judged { IfErr result IsJudged }
+    ensures draws { Draws F.rest F.fed F.fault_count plan (alone plan.body) feed.old feed.new
         (λ before after _. JudgedValues Bits plan.dictionary_size count before)
         (λ before fault. ValuesFail plan.dictionary_size before count Bits fault) result }
 {
@@ -129,8 +130,8 @@ fn judge_integers<F: Feed>(
     count: u64,
 ) -> Result<(), ColumnFault>
     requires differ { StreamsDiffer plan }
-    ensures no_read { IfErr result HoldsNoRead }
-    ensures draws { Draws F.rest F.fed F.fault_count plan feed.old feed.new
+    ensures judged { IfErr result IsJudged }
+    ensures draws { Draws F.rest F.fed F.fault_count plan (alone plan.body) feed.old feed.new
         (λ before after _. JudgedValues (OfIntegers version) plan.dictionary_size count before)
         (λ before fault. ValuesFail plan.dictionary_size before count (OfIntegers version) fault) result }
 {
@@ -150,8 +151,8 @@ fn judge_lengths<F: Feed>(
     count: u64,
 ) -> Result<(), ColumnFault>
     requires differ { StreamsDiffer plan }
-    ensures no_read { IfErr result HoldsNoRead }
-    ensures draws { Draws F.rest F.fed F.fault_count plan feed.old feed.new
+    ensures judged { IfErr result IsJudged }
+    ensures draws { Draws F.rest F.fed F.fault_count plan (alone plan.length) feed.old feed.new
         (λ before after _. JudgedLengths version limit count before after)
         (λ before fault. LengthsFail version before.lengths limit count fault) result }
 {
@@ -176,8 +177,8 @@ fn judge_texts<F: Feed>(
     count: u64,
 ) -> Result<(), ColumnFault>
     requires differ { StreamsDiffer plan }
-    ensures no_read { IfErr result HoldsNoRead }
-    ensures draws { Draws F.rest F.fed F.fault_count plan feed.old feed.new
+    ensures judged { IfErr result IsJudged }
+    ensures draws { Draws F.rest F.fed F.fault_count plan (alone plan.length) feed.old feed.new
         (λ before after _. Sized plan before → JudgedValues (Texts version) plan.dictionary_size count before)
         (λ before fault. Sized plan before → ValuesFail plan.dictionary_size before count (Texts version) fault) result }
 {
@@ -191,8 +192,8 @@ fn judge_dictionary<F: Feed>(
     count: u64,
 ) -> Result<(), ColumnFault>
     requires differ { StreamsDiffer plan }
-    ensures no_read { IfErr result HoldsNoRead }
-    ensures draws { Draws F.rest F.fed F.fault_count plan feed.old feed.new
+    ensures judged { IfErr result IsJudged }
+    ensures draws { Draws F.rest F.fed F.fault_count plan (plan.length ∷ alone plan.body) feed.old feed.new
         (λ before after _. Sized plan before → JudgedValues (Dictionary version) plan.dictionary_size count before)
         (λ before fault. Sized plan before → ValuesFail plan.dictionary_size before count (Dictionary version) fault) result }
 {

@@ -6,6 +6,7 @@ ghost use Rattle.orc_columns.specs.declared.plan.ColumnPlan.{ColumnPlan};
 ghost use Rattle.orc_columns.specs.Batches.{HoldsNoRead, LengthsGoOn, LengthsRefuse, TotalOf, AreRefused};
 ghost use Rattle.orc_columns.specs.Column.{IsNegative};
 ghost use Rattle.orc_columns.specs.Draws.{StreamsDiffer, Draws};
+ghost use Rattle.orc_columns.specs.Turns.{alone};
 
 use crate::fault::ColumnFault;
 use crate::fills::fill_lengths;
@@ -31,7 +32,7 @@ pub(crate) fn next_lengths<F: Feed>(
     ensures total { IfOk result (TotalOf (take count entries.new) room) }
     ensures no_read { IfErr result HoldsNoRead }
     ensures draws { (plan : ColumnPlan) → StreamsDiffer plan → lengths.old.stream ≡ plan.length → lengths.old.signed ≡ false → lengths.old.fault ≡ None →
-        Draws F.rest F.fed F.fault_count plan feed.old feed.new
+        Draws F.rest F.fed F.fault_count plan (alone plan.length) feed.old feed.new
         (LengthsGoOn lengths.old lengths.new) (LengthsRefuse lengths.old count room) (placed (take count entries.new) result) }
 {
     fill_lengths(lengths, feed, entries, count)?;

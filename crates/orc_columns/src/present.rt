@@ -3,7 +3,7 @@ ghost use Rattle.std.specs.Prelude.{◌≡◌, ◌<◌, true, length, replicate,
 ghost use Rattle.outside.specs.Reading.{placed};
 ghost use Rattle.orc_columns.specs.Decoders.{new_present};
 ghost use Rattle.orc_columns.specs.Present.{PresentFills};
-ghost use Rattle.orc_columns.specs.declared.present.PresentState.TheVariants.{Unread};
+ghost use Rattle.orc_columns.specs.declared.present.PresentState.TheVariants.{Unread, Empty};
 
 use orc_rle::Bits;
 use outside::{Feed, RunFault};
@@ -76,6 +76,16 @@ impl Present {
                 Ok(())
             }
             PresentState::Flags => self.bits.fill(feed, flags),
+        }
+    }
+
+    /// Whether it has no byte, so that all flags are set.
+    pub(crate) fn is_empty(&self) -> bool
+        ensures { result ≡ true → self.now.state ≡ Empty }
+    {
+        match self.state {
+            PresentState::Empty => true,
+            _ => false,
         }
     }
 

@@ -1,5 +1,5 @@
 //! Texts that are spelled one by one.
-ghost use Rattle.std.specs.Prelude.{◌≡◌, ◌≤◌, length, map, sum, unsigned_abs, All, OnOk, IfOk, IfErr};
+ghost use Rattle.std.specs.Prelude.{◌≡◌, ◌∷◌, ◌≤◌, length, map, sum, unsigned_abs, All, OnOk, IfOk, IfErr};
 ghost use Rattle.std.specs.Int.{IsNonNegative};
 ghost use Rattle.orc_values.specs.Column.{entries_in};
 ghost use Rattle.orc_values.specs.Texts.{slices};
@@ -9,6 +9,7 @@ ghost use Rattle.orc_columns.specs.declared.value_reader.ValueReader.TheVariants
 ghost use Rattle.orc_columns.specs.Batches.{HoldsNoRead, IsTyped, ReadsPlan, ValuesGoOn, ValuesBreak};
 ghost use Rattle.orc_columns.specs.Draws.{StreamsDiffer, Draws};
 ghost use Rattle.orc_columns.specs.Midway.{spelling_in};
+ghost use Rattle.orc_columns.specs.Turns.{alone};
 
 use crate::fault::ColumnFault;
 use crate::fills::BATCH;
@@ -45,7 +46,7 @@ pub(crate) fn text_rows<F: Feed>(
     ensures ready { (plan : ColumnPlan) → ReadsPlan plan (reader.Texts texts.old) → OnOk result (ReadsPlan plan (reader.Texts texts.new)) }
     ensures no_read { IfErr result HoldsNoRead }
     ensures draws { (plan : ColumnPlan) → StreamsDiffer plan → ReadsPlan plan (reader.Texts texts.old) →
-        Draws F.rest F.fed F.fault_count plan feed.old feed.new
+        Draws F.rest F.fed F.fault_count plan (plan.length ∷ alone plan.body) feed.old feed.new
         (ValuesGoOn plan.dictionary_size flags.now (reader.Texts texts.old) (reader.Texts texts.new))
         (ValuesBreak plan.dictionary_size (present_count flags.now) (reader.Texts texts.old)) result }
 {

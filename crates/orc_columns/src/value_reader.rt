@@ -1,5 +1,5 @@
 //! The values of a column that aren't null, a batch at a time.
-ghost use Rattle.std.specs.Prelude.{◌≡◌, ◌≤◌, length, OnOk, IfOk, IfErr};
+ghost use Rattle.std.specs.Prelude.{◌≡◌, ◌≤◌, [], length, Some, OnOk, IfOk, IfErr};
 ghost use Rattle.orc_values.specs.Column.{entries_in};
 ghost use Rattle.orc_values.specs.Woven.{present_count};
 ghost use Rattle.orc_columns.specs.declared.plan.ColumnPlan.{ColumnPlan};
@@ -8,6 +8,7 @@ ghost use Rattle.orc_columns.specs.Batches.{HoldsNoRead, IsTyped, ReadsPlan, Val
 ghost use Rattle.orc_columns.specs.Draws.{StreamsDiffer, Draws};
 ghost use Rattle.orc_columns.specs.Midway.{spelling_in};
 ghost use Rattle.orc_columns.specs.Reader.{HasLengths};
+ghost use Rattle.orc_columns.specs.Turns.{alone, value_streams, start_by};
 
 use crate::bit_stream::BitStream;
 use crate::dictionary::{DictionaryReader, dictionary_rows, read_entries};
@@ -46,7 +47,7 @@ impl ValueReader {
         ensures ready { (plan : ColumnPlan) → ReadsPlan plan self.old → OnOk result (ReadsPlan plan self.new) }
         ensures no_read { IfErr result HoldsNoRead }
         ensures draws { (plan : ColumnPlan) → StreamsDiffer plan → ReadsPlan plan self.old →
-            Draws F.rest F.fed F.fault_count plan feed.old feed.new
+            Draws F.rest F.fed F.fault_count plan (value_streams plan (spelling_in self.old)) feed.old feed.new
             (ValuesGoOn plan.dictionary_size flags.now self.old self.new)
             (ValuesBreak plan.dictionary_size (present_count flags.now) self.old) result }
     {
@@ -71,9 +72,10 @@ pub(crate) fn start_values<F: Feed>(
     requires differ { StreamsDiffer plan }
     requires lens { HasLengths F.rest feed.old plan }
     ensures spelling { IfOk result (λ values. spelling_in values ≡ spelling) }
+    ensures idle { start_by plan (Some spelling) ≡ [] → feed.new ≡ feed.old }
     ensures ready { IfOk result (ReadsPlan plan) }
     ensures no_read { IfErr result HoldsNoRead }
-    ensures draws { Draws F.rest F.fed F.fault_count plan feed.old feed.new
+    ensures draws { Draws F.rest F.fed F.fault_count plan (start_by plan (Some spelling)) feed.old feed.new
         (ValuesBegin plan.dictionary_size) (ValuesFailAtStart plan.dictionary_size spelling) result }
 {
     match spelling {
@@ -109,7 +111,7 @@ fn bit_rows<F: Feed>(
     ensures ready { (plan : ColumnPlan) → ReadsPlan plan (reader.Bits bits.old) → OnOk result (ReadsPlan plan (reader.Bits bits.new)) }
     ensures no_read { IfErr result HoldsNoRead }
     ensures draws { (plan : ColumnPlan) → StreamsDiffer plan → ReadsPlan plan (reader.Bits bits.old) →
-        Draws F.rest F.fed F.fault_count plan feed.old feed.new
+        Draws F.rest F.fed F.fault_count plan (alone plan.body) feed.old feed.new
         (ValuesGoOn plan.dictionary_size flags.now (reader.Bits bits.old) (reader.Bits bits.new))
         (ValuesBreak plan.dictionary_size (present_count flags.now) (reader.Bits bits.old)) result }
 {
@@ -135,12 +137,11 @@ fn number_rows<F: Feed>(
     ensures ready { (plan : ColumnPlan) → ReadsPlan plan (reader.Integers integers.old) → OnOk result (ReadsPlan plan (reader.Integers integers.new)) }
     ensures no_read { IfErr result HoldsNoRead }
     ensures draws { (plan : ColumnPlan) → StreamsDiffer plan → ReadsPlan plan (reader.Integers integers.old) →
-        Draws F.rest F.fed F.fault_count plan feed.old feed.new
+        Draws F.rest F.fed F.fault_count plan (alone plan.body) feed.old feed.new
         (ValuesGoOn plan.dictionary_size flags.now (reader.Integers integers.old) (reader.Integers integers.new))
         (ValuesBreak plan.dictionary_size (present_count flags.now) (reader.Integers integers.old)) result }
 {
     let mut entries = number_memory(alloc, older);
-    entries.clear();
     entries.resize(flags.len(), 0)?;
     fill_numbers(integers, feed, &mut entries, count_present(flags))?;
     spread(flags, &mut entries);

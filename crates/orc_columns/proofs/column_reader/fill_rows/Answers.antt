@@ -1,4 +1,4 @@
-use Rattle.std.proofs.Common.{◌≡◌, ℕ, Bool, List, length, Ok, sym, ◌∙◌, ap, subst}
+use Rattle.std.proofs.Common.{◌≡◌, ℕ, Bool, List, length, Ok, Err, sym, ◌∙◌, ap, subst}
 use Rattle.std.specs.Prelude.{All}
 use Rattle.std.proofs.lemmas.List.{with_items_is}
 use Rattle.std.proofs.lemmas.Result.{err_from_is_err_and}
@@ -8,9 +8,11 @@ use Rattle.orc_values.specs.Column.{column_of}
 use Rattle.orc_columns.specs.Batches.{IsOfKind, FlagsGoOn, FlagsBreak}
 use Rattle.orc_columns.specs.Draws.{Draws}
 use Rattle.orc_columns.specs.Reader.{whole_reader, RowsGoOn, RowsFail}
-use Rattle.orc_columns.proofs.Drawing.{Draws-fault, Draws-refused}
+use Rattle.orc_columns.proofs.Drawing.{Draws-fault, Draws-front, Draws-refused}
 use Rattle.orc_columns.proofs.KindsOf.{rows_of_kind}
 use Rattle.orc_columns.proofs.ReadingRows.{flags_fail, batch_ok, batch_fault, length-column_of}
+use Rattle.orc_columns.specs.Midway.{spelling_in}
+use Rattle.orc_columns.specs.Turns.{alone, value_streams}
 use Rattle.orc_columns.proofs.column_reader.fill_rows.Goals as goal
 
 pub returns-in_err-resize-clause-draws : goal.returns-in_err-resize-clause-draws
@@ -29,10 +31,12 @@ returns-in_err-fill_flags-clause-draws g c = λ plan differ on.
     let ov = c.args.values.now in
     let n : length c.deref_mut.result.now ≡ c.args.rows = c.deref_mut.ensures.len ∙ c.in_ok-resize.ensures.len in
     let p = err_from_is_err_and c.from_residual-in_err-fill_flags.result c.from_residual-in_err-fill_flags.ensures.1 in
-    rw (p.1, p.2) (Draws-fault f.rest f.fed f.fault_count plan m.fed_lost m.fed_nothing m.fed_joined c.args.feed.now c.fill_flags.new.feed
+    rw (p.1, p.2) (Draws-front f.rest f.fed f.fault_count plan m.fed_lost m.fed_nothing m.fed_joined (value_streams plan (spelling_in ov)) c.args.feed.now c.fill_flags.new.feed
+    (RowsGoOn (whole_reader plan old ov) (whole_reader plan new ov)) (RowsFail (whole_reader plan old ov) c.args.rows) (Err c.in_err-fill_flags.field-0.0)
+    (Draws-fault f.rest f.fed f.fault_count plan m.fed_lost m.fed_nothing m.fed_joined c.args.feed.now c.fill_flags.new.feed
     (FlagsGoOn old new) (RowsGoOn (whole_reader plan old ov) (whole_reader plan new ov)) (FlagsBreak old (length c.deref_mut.result.now)) (RowsFail (whole_reader plan old ov) c.args.rows) c.in_err-fill_flags.field-0.0
     (λ b fault tells breaks. flags_fail plan old new ov ov c.args.rows b fault (subst (λ (k : ℕ). FlagsBreak old k b fault) n breaks))
-    (c.in_err-fill_flags.ensures.draws plan differ on.on on.fresh))
+    (c.in_err-fill_flags.ensures.draws plan differ on.on on.fresh)))
 
 pub returns-in_err-typed-clause-draws : goal.returns-in_err-typed-clause-draws
 returns-in_err-typed-clause-draws g c = λ plan differ on.
@@ -47,7 +51,7 @@ returns-in_err-typed-clause-draws g c = λ plan differ on.
     let p = err_from_is_err_and c.from_residual-in_err-typed.result c.from_residual-in_err-typed.ensures.1 in
     rw (p.1, p.2) (batch_fault f.rest f.fed f.fault_count plan m.fed_lost m.fed_nothing m.fed_joined old new c.args.values.now c.fill.new.self c.args.rows c.args.feed.now c.fill_flags.new.feed c.fill.new.feed
     flags c.deref.result.now same c.in_err-typed.field-0.0 (ap length same ∙ c.fill_flags.auto.flags ∙ n)
-    (subst (λ (k : ℕ). Draws f.rest f.fed f.fault_count plan c.args.feed.now c.fill_flags.new.feed (FlagsGoOn old new) (FlagsBreak old k) (Ok flags)) n (c.in_ok-fill_flags.ensures.draws plan differ on.on on.fresh))
+    (subst (λ (k : ℕ). Draws f.rest f.fed f.fault_count plan (alone plan.present) c.args.feed.now c.fill_flags.new.feed (FlagsGoOn old new) (FlagsBreak old k) (Ok flags)) n (c.in_ok-fill_flags.ensures.draws plan differ on.on on.fresh))
     (c.in_err-typed.ensures.draws plan differ on.reads))
 
 pub returns-clause-ready : goal.returns-clause-ready
@@ -83,5 +87,5 @@ returns-clause-draws g c = λ plan differ on.
     let made : c.new.result ≡ column_of c.deref.result.now c.in_ok-typed.typed = c.new.ensures ∙ ap (λ (l : List Bool). column_of l c.in_ok-typed.typed) (sym c.deref.ensures.value) in
     batch_ok f.rest f.fed f.fault_count plan m.fed_lost m.fed_nothing m.fed_joined old new c.args.values.now c.fill.new.self c.args.rows c.args.feed.now c.fill_flags.new.feed c.fill.new.feed
     flags c.deref.result.now same c.in_ok-typed.typed c.new.result c.fill.ensures.spelling made
-    (subst (λ (k : ℕ). Draws f.rest f.fed f.fault_count plan c.args.feed.now c.fill_flags.new.feed (FlagsGoOn old new) (FlagsBreak old k) (Ok flags)) n (c.in_ok-fill_flags.ensures.draws plan differ on.on on.fresh))
+    (subst (λ (k : ℕ). Draws f.rest f.fed f.fault_count plan (alone plan.present) c.args.feed.now c.fill_flags.new.feed (FlagsGoOn old new) (FlagsBreak old k) (Ok flags)) n (c.in_ok-fill_flags.ensures.draws plan differ on.on on.fresh))
     (c.in_ok-typed.ensures.draws plan differ on.reads)

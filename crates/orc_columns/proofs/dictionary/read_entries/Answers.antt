@@ -1,8 +1,41 @@
-use Rattle.std.proofs.Common.{◌≡◌, List, length, map, unsigned_abs, ℤ, refl, ◌∙◌, ap}
+use Rattle.std.proofs.Common.{◌≡◌, List, length, map, unsigned_abs, Err, ℤ, refl, ◌∙◌, ap}
 use Rattle.std.proofs.lemmas.Result.{err_from_is_err_and}
 use Rattle.orc_values.specs.Texts.{running_ends}
+use Rattle.orc_columns.specs.declared.fault.ColumnFault.TheVariants.{NoMemory}
+use Rattle.orc_columns.specs.Batches.{EntriesRead, EntriesFail}
+use Rattle.orc_columns.specs.Entries.{LengthsRead}
+use Rattle.orc_columns.specs.Turns.{alone}
+use Rattle.orc_columns.proofs.Drawing.{Draws-front, Draws-fault, Draws-stops}
 use Rattle.orc_columns.proofs.WholeDictionary.{ends_within, dictionary_read, dictionary_fault}
 use Rattle.orc_columns.proofs.dictionary.read_entries.Goals as goal
+
+pub returns-in_err-total-clause-draws : goal.returns-in_err-total-clause-draws
+returns-in_err-total-clause-draws g c =
+    let f = g.F.Feed in
+    let m = g.met.F.Feed in
+    let plan = c.args.plan in
+    let version = c.args.version in
+    let size = plan.dictionary_size in
+    let p = err_from_is_err_and c.from_residual.result c.from_residual.ensures.1 in
+    rw (p.1, p.2) (Draws-front f.rest f.fed f.fault_count plan m.fed_lost m.fed_nothing m.fed_joined (alone plan.dictionary) c.args.feed.now c.entry_lengths.new.feed
+    (EntriesRead version size) (EntriesFail version size) (Err c.in_err-total.field-0.0)
+    (Draws-fault f.rest f.fed f.fault_count plan m.fed_lost m.fed_nothing m.fed_joined c.args.feed.now c.entry_lengths.new.feed
+    (LengthsRead version size) (EntriesRead version size) (EntriesFail version size) (EntriesFail version size) c.in_err-total.field-0.0
+    (λ b fault tells fails. fails) c.in_err-total.ensures.draws))
+
+pub returns-in_err-ends-clause-draws : goal.returns-in_err-ends-clause-draws
+returns-in_err-ends-clause-draws g c =
+    let f = g.F.Feed in
+    let m = g.met.F.Feed in
+    let plan = c.args.plan in
+    let version = c.args.version in
+    let size = plan.dictionary_size in
+    let p = err_from_is_err_and c.from_residual-in_err-ends.result c.from_residual-in_err-ends.ensures.1 in
+    rw (p.1, p.2, c.in_err-ends.ensures.refused) (Draws-front f.rest f.fed f.fault_count plan m.fed_lost m.fed_nothing m.fed_joined (alone plan.dictionary) c.args.feed.now c.entry_lengths.new.feed
+    (EntriesRead version size) (EntriesFail version size) (Err NoMemory)
+    (Draws-stops f.rest f.fed f.fault_count plan m.fed_lost m.fed_nothing m.fed_joined c.args.feed.now c.entry_lengths.new.feed
+    (LengthsRead version size) (EntriesRead version size) (EntriesFail version size) (EntriesFail version size) c.entry_lengths.new.lengths.items NoMemory (λ no. no)
+    (λ b a tells goes. tt) c.in_ok-total.ensures.draws))
 
 pub returns-in_err-read_bytes-clause-draws : goal.returns-in_err-read_bytes-clause-draws
 returns-in_err-read_bytes-clause-draws g c =

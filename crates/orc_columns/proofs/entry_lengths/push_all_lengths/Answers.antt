@@ -4,6 +4,7 @@ use Rattle.orc_columns.specs.Batches.{LengthsGoOn, LengthsBreak}
 use Rattle.orc_columns.specs.Draws.{Draws}
 use Rattle.orc_columns.proofs.Drawing.{Draws-done}
 use Rattle.orc_columns.proofs.WholeDictionary.{no_lengths, lengths_more, lengths_stop}
+use Rattle.orc_columns.specs.Turns.{alone}
 use Rattle.orc_columns.proofs.entry_lengths.push_all_lengths.Goals as goal
 
 pub loop-open-init : goal.loop-open-init
@@ -56,4 +57,4 @@ returns-clause-draws g c = λ plan differ on fresh.
     let l = c.loop-open in
     let i = c.args.integers.now in
     let all : length l.into.items ≡ c.args.count = omega (arith, l.invariant.asked) in
-    subst (λ (k : ℕ). Draws f.rest f.fed f.fault_count plan c.args.feed.now l.feed (LengthsGoOn i l.integers) (LengthsBreak i k) (Ok l.into.items)) all (l.invariant.draws plan differ on fresh)
+    subst (λ (k : ℕ). Draws f.rest f.fed f.fault_count plan (alone plan.length) c.args.feed.now l.feed (LengthsGoOn i l.integers) (LengthsBreak i k) (Ok l.into.items)) all (l.invariant.draws plan differ on fresh)

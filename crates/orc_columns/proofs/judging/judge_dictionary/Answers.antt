@@ -1,7 +1,7 @@
 use Rattle.std.proofs.Common.{◌<◌, ◌≤◌, arith}
 use Rattle.std.proofs.lemmas.Result.{err_from_is_err_and}
 use Rattle.orc_columns.proofs.Judged.{entries_broken, places_broken, out_of_dictionary, dictionary_judged}
-use Rattle.orc_columns.proofs.NoRead.{of_run-no_read}
+use Rattle.orc_columns.proofs.NoRead.{of_run-judged}
 use Rattle.orc_columns.proofs.judging.judge_dictionary.Goals as goal
 
 pub returns-in_err-judge_lengths-clause-draws : goal.returns-in_err-judge_lengths-clause-draws
@@ -31,5 +31,5 @@ returns-clause-draws g c =
     let low : c.in-Ok.summary.bound ≤ c.args.plan.dictionary_size = omega (arith, c.from.ensures, c.if-summary-from.false) in
     dictionary_judged f.rest f.fed f.fault_count c.args.plan law.fed_lost law.fed_nothing law.fed_joined c.requires.differ c.args.version c.args.feed.now c.judge_lengths.new.feed c.read_numbers.new.feed c.read_numbers.new.integers.held c.args.plan.dictionary_size c.args.count c.in_ok-judge_lengths.ensures.draws c.in-Ok.summary (rw c.new-places.ensures at c.in-Ok.ensures) low
 
-pub returns-in-Err-clause-no_read : goal.returns-in-Err-clause-no_read
-returns-in-Err-clause-no_read g c = rw c.of_run.ensures (of_run-no_read _ c.in-Err.fault)
+pub returns-in-Err-clause-judged : goal.returns-in-Err-clause-judged
+returns-in-Err-clause-judged g c = rw c.of_run.ensures (of_run-judged _ c.in-Err.fault)

@@ -1,6 +1,6 @@
 use Rattle.std.proofs.Common.{◌<◌, ◌≤◌, arith}
 use Rattle.orc_columns.proofs.Judged.{lengths_broken, a_negative, past_data, lengths_judged}
-use Rattle.orc_columns.proofs.NoRead.{of_run-no_read}
+use Rattle.orc_columns.proofs.NoRead.{of_run-judged}
 use Rattle.orc_columns.proofs.judging.judge_lengths.Goals as goal
 
 pub returns-in-Err-clause-draws : goal.returns-in-Err-clause-draws
@@ -29,5 +29,5 @@ returns-clause-draws g c =
     let within : c.in-Ok.summary.total ≤ c.args.limit = omega (arith, c.from.ensures, c.if-summary-from.false) in
     lengths_judged f.rest f.fed f.fault_count c.args.plan law.fed_lost law.fed_nothing law.fed_joined c.requires.differ c.args.version c.args.feed.now c.read_numbers.new.feed c.read_numbers.new.integers.held c.args.limit c.args.count c.in-Ok.summary (rw c.new-lengths.ensures at c.in-Ok.ensures) c.if-summary-gt-NEGATIVE.false within
 
-pub returns-in-Err-clause-no_read : goal.returns-in-Err-clause-no_read
-returns-in-Err-clause-no_read g c = rw c.of_run.ensures (of_run-no_read _ c.in-Err.fault)
+pub returns-in-Err-clause-judged : goal.returns-in-Err-clause-judged
+returns-in-Err-clause-judged g c = rw c.of_run.ensures (of_run-judged _ c.in-Err.fault)

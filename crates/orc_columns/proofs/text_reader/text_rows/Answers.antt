@@ -1,4 +1,4 @@
-use Rattle.std.proofs.Common.{◌≡◌, ℕ, List, [], Option, length, map, take, ℤ, ap, arith}
+use Rattle.std.proofs.Common.{◌≡◌, ℕ, List, [], Option, length, map, take, Err, ℤ, ap, arith}
 use Rattle.std.proofs.lemmas.List.{length-take-le}
 use Rattle.std.proofs.lemmas.Result.{err_from_is_err_and}
 use Rattle.orc_values.specs.declared.value.Value.{Value}
@@ -7,8 +7,9 @@ use Rattle.orc_values.specs.Column.{value_by}
 use Rattle.orc_values.specs.Woven.{present_count}
 use Rattle.orc_values.specs.WovenLaws.{present_count-le}
 use Rattle.orc_columns.specs.declared.fault.ColumnFault.TheVariants.{NoMemory}
+use Rattle.orc_columns.specs.Turns.{alone}
 use Rattle.orc_columns.specs.Batches.{LengthsGoOn, LengthsRefuse, ValuesGoOn, ValuesBreak}
-use Rattle.orc_columns.proofs.Drawing.{Draws-fault, Draws-refused}
+use Rattle.orc_columns.proofs.Drawing.{Draws-fault, Draws-front, Draws-refused}
 use Rattle.orc_columns.proofs.TextRows.{reader_of, texts_refuse, texts_ok, texts_fault}
 use Rattle.orc_columns.proofs.text_reader.text_rows.Goals as goal
 
@@ -38,11 +39,13 @@ returns-in_err-total-clause-draws g c = λ plan differ on.
     let flags = c.args.flags.now in
     let size = plan.dictionary_size in
     let p = err_from_is_err_and c.from_residual-in_err-total.result c.from_residual-in_err-total.ensures.1 in
-    rw (p.1, p.2) (Draws-fault f.rest f.fed f.fault_count plan m.fed_lost m.fed_nothing m.fed_joined c.args.feed.now c.next_lengths.new.feed
+    rw (p.1, p.2) (Draws-front f.rest f.fed f.fault_count plan m.fed_lost m.fed_nothing m.fed_joined (alone plan.body) c.args.feed.now c.next_lengths.new.feed
+    (ValuesGoOn size flags (reader_of old t.«data» t.left) (reader_of new t.«data» t.left)) (ValuesBreak size (present_count flags) (reader_of old t.«data» t.left)) (Err c.in_err-total.field-0.0)
+    (Draws-fault f.rest f.fed f.fault_count plan m.fed_lost m.fed_nothing m.fed_joined c.args.feed.now c.next_lengths.new.feed
     (LengthsGoOn old new) (ValuesGoOn size flags (reader_of old t.«data» t.left) (reader_of new t.«data» t.left))
     (LengthsRefuse old n t.left) (ValuesBreak size (present_count flags) (reader_of old t.«data» t.left)) c.in_err-total.field-0.0
     (λ b fault tells refuse. texts_refuse size n flags old new t.«data» t.left 0 [] on.1 c.count_present-count.ensures b fault refuse)
-    (c.in_err-total.ensures.draws plan differ on.0 on.1 on.2))
+    (c.in_err-total.ensures.draws plan differ on.0 on.1 on.2)))
 
 pub returns-in_err-read_bytes-clause-draws : goal.returns-in_err-read_bytes-clause-draws
 returns-in_err-read_bytes-clause-draws g c = λ plan differ on.

@@ -48,7 +48,7 @@ returns-in_ok-entries-in-Dictionary-clause-draws g c =
     let m = g.met.F.Feed in
     let size = c.args.plan.dictionary_size in
     let i = c.new-in-Dictionary.result in
-    Draws-ok f.rest f.fed f.fault_count c.args.plan m.fed_lost m.fed_nothing m.fed_joined c.args.feed.now c.read_entries.new.feed
-    (EntriesRead c.in-Dictionary.version size) (ValuesBegin size) (EntriesFail c.in-Dictionary.version size) (ValuesFailAtStart size c.args.spelling) c.in_ok-entries-in-Dictionary.entries _
+    rw c.in-Dictionary.is (Draws-ok f.rest f.fed f.fault_count c.args.plan m.fed_lost m.fed_nothing m.fed_joined c.args.feed.now c.read_entries.new.feed
+    (EntriesRead c.in-Dictionary.version size) (ValuesBegin size) (EntriesFail c.in-Dictionary.version size) (ValuesFailAtStart size _) c.in_ok-entries-in-Dictionary.entries _
     (λ b a tells read. dictionary_begins size b a i c.in-Dictionary.version c.in_ok-entries-in-Dictionary.entries (ap (λ (i : IntegersOf). i.held) c.new-in-Dictionary.ensures) (ap (λ (i : IntegersOf). i.version) c.new-in-Dictionary.ensures) read)
-    c.in_ok-entries-in-Dictionary.ensures.draws
+    c.in_ok-entries-in-Dictionary.ensures.draws)

@@ -19,5 +19,5 @@ returns-clause-draws g c = λ fresh.
     let new = c.fill_rows-filled.new in
     let inside : i.fault ≡ None = ap (λ (r : ReaderOf). r.fault) c.self.view_is ∙ fresh in
     reader_draws f.rest f.fed f.fault_count m.fed_lost m.fed_nothing m.fed_joined i.plan i.present new.present i.values new.values c.args.self.now c.args.rows c.args.feed.now new.feed new.out
-    c.fill_rows-filled.result i.fault c.err-self-inside.result c.self.view_is fresh c.err-self-inside.ensures.value
+    c.fill_rows-filled.result i.fault c.err-self-inside.result c.self.invariant.spelled c.self.view_is fresh c.err-self-inside.ensures.value
     (c.fill_rows-filled.ensures.draws i.plan c.self.invariant.differ (c.self.invariant.ready inside))
