@@ -40,7 +40,7 @@ all_joined plan (t ∷ front) back a b = (a.0, all_joined plan front back a.1 b)
 not_same : (a b other : ℕ) → a ≢ other → b ≡ a → (b == other) ≡ false
 not_same a b other differ same = grind (arith, differ, same)
 
-none_taken : (stream other : ℕ) (takes : List Taken) → stream ≢ other → AllOf stream takes → taken_of other takes ≡ 0
+pub none_taken : (stream other : ℕ) (takes : List Taken) → stream ≢ other → AllOf stream takes → taken_of other takes ≡ 0
 none_taken stream other [] differ all = refl
 none_taken stream other (t ∷ takes) differ all =
     let no : (t.stream == other) ≡ false = not_same stream t.stream other differ all.0 in
@@ -49,7 +49,7 @@ none_taken stream other (t ∷ takes) differ all =
 some_is : {A : Type 0} (x y : A) → Some x ≡ Some y → x ≡ y
 some_is x y e = cc
 
-none_lost : (before after : Option (List ℕ)) (bytes : List ℕ) → before ≡ Some bytes → Lost 0 before after → after ≡ Some bytes
+pub none_lost : (before after : Option (List ℕ)) (bytes : List ℕ) → before ≡ Some bytes → Lost 0 before after → after ≡ Some bytes
 none_lost None after bytes told lost = absurd (let no : None ≡ Some bytes = told in cc)
 none_lost (Some whole) None bytes told lost = absurd lost
 none_lost (Some whole) (Some left) bytes told lost = ap (λ (b : List ℕ). Some b) (lost.1 ∙ some_is whole bytes told)

@@ -4,6 +4,7 @@ mod Cases
 mod Decoders
 mod DenseRows
 mod Drawing
+mod EitherColumn
 mod EntryRows
 mod FlagBatches
 mod FlagsFollowing
@@ -17,6 +18,7 @@ mod NumberBatches
 mod OneColumn
 mod OneSpelling
 mod Optional
+mod OtherStreams
 mod PlaceRows
 mod ReadingRows
 mod Summaries

@@ -1,5 +1,5 @@
 //! Flags of rows, and values that aren't null, read to the front of the list of a batch's rows.
-ghost use Rattle.std.specs.Prelude.{◌≡◌, ◌≤◌, length, take, None, OnOk, IfErr};
+ghost use Rattle.std.specs.Prelude.{◌≡◌, ◌≤◌, length, take, drop, None, OnOk, IfErr};
 ghost use Rattle.outside.specs.Reading.{placed};
 ghost use Rattle.orc_columns.specs.declared.plan.ColumnPlan.{ColumnPlan};
 ghost use Rattle.orc_columns.specs.Batches.{HoldsNoRead, FlagsGoOn, FlagsBreak, NumbersGoOn, NumbersBreak, LengthsGoOn, LengthsBreak, BitsGoOn, BitsBreak};
@@ -43,6 +43,7 @@ pub(crate) fn fill_numbers<F: Feed>(
 ) -> Result<(), ColumnFault>
     requires { count ≤ length entries.old }
     ensures len { length entries.new ≡ length entries.old }
+    ensures behind { drop count entries.new ≡ drop count entries.old }
     ensures stream { integers.new.stream ≡ integers.old.stream }
     ensures version { integers.new.version ≡ integers.old.version }
     ensures signed { integers.new.signed ≡ integers.old.signed }
@@ -68,6 +69,7 @@ pub(crate) fn fill_lengths<F: Feed>(
 ) -> Result<(), ColumnFault>
     requires { count ≤ length entries.old }
     ensures len { length entries.new ≡ length entries.old }
+    ensures behind { drop count entries.new ≡ drop count entries.old }
     ensures stream { integers.new.stream ≡ integers.old.stream }
     ensures version { integers.new.version ≡ integers.old.version }
     ensures signed { integers.new.signed ≡ integers.old.signed }
@@ -93,6 +95,7 @@ pub(crate) fn fill_bits<F: Feed>(
 ) -> Result<(), ColumnFault>
     requires { count ≤ length entries.old }
     ensures len { length entries.new ≡ length entries.old }
+    ensures behind { drop count entries.new ≡ drop count entries.old }
     ensures stream { bits.new.stream ≡ bits.old.stream }
     ensures whole { bits.old.fault ≡ None → OnOk result (bits.new.fault ≡ None) }
     ensures no_read { IfErr result HoldsNoRead }

@@ -1,5 +1,5 @@
 //! The values that a decoder has read and not yet given.
-ghost use Rattle.std.specs.Prelude.{◌≡◌, ◌≤◌, ◌<◌, [], ◌++◌, length, take};
+ghost use Rattle.std.specs.Prelude.{◌≡◌, ◌≤◌, ◌<◌, [], ◌++◌, length, take, drop};
 
 use std::marker::Model;
 
@@ -42,11 +42,12 @@ impl Held {
         }
     }
 
-    /// Gives as many values as there is room for, and answers how many.
+    /// Gives as many values as there is room for, and answers how many. Entries behind them stay as they were.
     pub fn give(&mut self, out: &mut [i64]) -> usize
         ensures room { result ≤ length out.old }
         ensures parts { self.old ≡ take result out.new ++ self.new }
         ensures all { result < length out.old → self.new ≡ [] }
+        ensures behind { drop result out.new ≡ drop result out.old }
     {
         let held = &self.values[self.from..self.to];
         let count = held.len().min(out.len());

@@ -1,5 +1,5 @@
-use Rattle.std.proofs.Common.{◌≡◌, ◌+◌, ◌-◌, ◌≤◌, length, take, drop, arith, sym}
-use Rattle.std.proofs.lemmas.List.{take-append-drop, take_at, length-take, length-drop}
+use Rattle.std.proofs.Common.{◌≡◌, ◌+◌, ◌-◌, ◌≤◌, ◌∙◌, length, take, drop, arith, sym}
+use Rattle.std.proofs.lemmas.List.{take-append-drop, take_at, drop_at, length-take, length-drop}
 use Rattle.orc_integers.proofs.Lists.{left_after}
 use Rattle.orc_integers.proofs.held.Held.give.Goals as goal
 
@@ -13,3 +13,10 @@ returns-clause-parts c =
     let fits : s.from + count ≤ s.to = omega (arith, c.min-count.ensures, len, c.self.invariant) in
     let front : length c.copy_from_slice.new.self ≡ count = omega (arith, c.copy_from_slice.ensures.len, c.split_at_mut-front.ensures.front_len) in
     rw (take_at c.copy_from_slice.new.self c.split_at_mut-front.result.1.now count front, c.copy_from_slice.ensures.after, ← left_after s.values s.from s.to count fits, ← c.self.view_is) (sym (take-append-drop count whole))
+
+pub returns-clause-behind : goal.returns-clause-behind
+returns-clause-behind c =
+    let s = c.self.inside in
+    let count = c.min-count.result in
+    let front : length c.copy_from_slice.new.self ≡ count = omega (arith, c.copy_from_slice.ensures.len, c.split_at_mut-front.ensures.front_len) in
+    drop_at c.copy_from_slice.new.self c.split_at_mut-front.result.1.now count front ∙ c.split_at_mut-front.ensures.back
