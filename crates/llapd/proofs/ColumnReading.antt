@@ -52,8 +52,8 @@ decided A (Read failed) kept no_read a = absurd (no_read tt)
 decided A NoMemory kept no_read a = absurd (kept refl)
 
 -- a fault of a feed that never fails is the column's
-pub fault_is : {Y : Type 0} (plan : ColumnPlan) (first last : SliceFeed) (Goes : Streams → Streams → Y → Type 0) (A : Streams → ColumnFault → Type 0) (answer : Result Y ColumnFault) (fault : ColumnFault) (before : Streams)
-    → answer ≡ Err fault → fault ≢ NoMemory → Draws rest_of Fed (λ _. 0) plan first last Goes A answer → Tells rest_of first plan before → A before fault
+pub fault_is : {Y : Type 0} {turns : List (Option ℕ)} (plan : ColumnPlan) (first last : SliceFeed) (Goes : Streams → Streams → Y → Type 0) (A : Streams → ColumnFault → Type 0) (answer : Result Y ColumnFault) (fault : ColumnFault) (before : Streams)
+    → answer ≡ Err fault → fault ≢ NoMemory → Draws rest_of Fed (λ _. 0) plan turns first last Goes A answer → Tells rest_of first plan before → A before fault
 fault_is plan first last Goes A (Ok y) fault before is kept draws tells = absurd (cc)
 fault_is plan first last Goes A (Err other) fault before is kept draws tells =
     let same : other ≡ fault = cc in
@@ -61,8 +61,8 @@ fault_is plan first last Goes A (Err other) fault before is kept draws tells =
     (subst (λ (f : ColumnFault). Decided (A before) f) same (draws.told before tells))
 
 -- and else the call said so
-pub goes_is : {Y : Type 0} (plan : ColumnPlan) (first last : SliceFeed) (Goes : Streams → Streams → Y → Type 0) (A : Streams → ColumnFault → Type 0) (answer : Result Y ColumnFault) (y : Y) (before : Streams)
-    → answer ≡ Ok y → Draws rest_of Fed (λ _. 0) plan first last Goes A answer → Tells rest_of first plan before → (after : Streams) × Tells rest_of last plan after × Goes before after y
+pub goes_is : {Y : Type 0} {turns : List (Option ℕ)} (plan : ColumnPlan) (first last : SliceFeed) (Goes : Streams → Streams → Y → Type 0) (A : Streams → ColumnFault → Type 0) (answer : Result Y ColumnFault) (y : Y) (before : Streams)
+    → answer ≡ Ok y → Draws rest_of Fed (λ _. 0) plan turns first last Goes A answer → Tells rest_of first plan before → (after : Streams) × Tells rest_of last plan after × Goes before after y
 goes_is plan first last Goes A (Err fault) y before is draws tells = absurd (cc)
 goes_is {Y} plan first last Goes A (Ok z) y before is draws tells =
     let same : z ≡ y = cc in
