@@ -1,6 +1,5 @@
 mod AllLeft
 mod Beginnings
-mod Cases
 mod Decoders
 mod DenseRows
 mod Drawing

@@ -26,6 +26,3 @@ pub use judging::first_fault;
 pub use orc_values::{Column, ColumnValues, Columns, Texts, Value, ValueRef};
 pub use plan::ColumnPlan;
 pub use spelling::{Spelling, Version, spelling_of};
-
-#[cfg(test)]
-mod tests;

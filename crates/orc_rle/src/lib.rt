@@ -16,6 +16,3 @@ mod signed_byte;
 pub use bits::Bits;
 pub use byte_runs::ByteRuns;
 pub use int_runs1::IntRuns1;
-
-#[cfg(test)]
-mod tests;

@@ -12,6 +12,3 @@ mod sums;
 mod widths;
 
 pub use int_runs2::IntRuns2;
-
-#[cfg(test)]
-mod tests;

@@ -15,6 +15,3 @@ pub use columns::Columns;
 pub use rows::{count_present, lay_ends, spread};
 pub use texts::Texts;
 pub use value::{Value, ValueRef};
-
-#[cfg(test)]
-mod tests;

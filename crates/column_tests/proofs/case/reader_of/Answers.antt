@@ -1,5 +1,5 @@
-use Rattle.orc_columns.proofs.Cases.{numbers_differ, untold_sized}
-use Rattle.orc_columns.proofs.tests.read_column.Goals as goal
+use Rattle.column_tests.proofs.Cases.{numbers_differ, untold_sized}
+use Rattle.column_tests.proofs.case.reader_of.Goals as goal
 
 pub start-requires-clause-differ : goal.start-requires-clause-differ
 start-requires-clause-differ c =
@@ -7,4 +7,4 @@ start-requires-clause-differ c =
     numbers_differ c.plan_of.result e.present e.body e.length e.dictionary
 
 pub start-requires-clause-lens : goal.start-requires-clause-lens
-start-requires-clause-lens c = λ s tells. untold_sized c.in_ok-feed.feed c.plan_of.result s c.plan_of.ensures.body tells
+start-requires-clause-lens c = λ s tells. untold_sized c.args.feed.now c.plan_of.result s c.plan_of.ensures.body tells
