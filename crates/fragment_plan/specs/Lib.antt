@@ -1,0 +1,6 @@
+pub mod Columns
+pub mod Tests
+pub mod Sources
+pub mod Shapes
+pub mod Fragments
+pub mod Plan

@@ -1,0 +1,55 @@
+//! A plan.
+
+ghost use Rattle.std.specs.Prelude.{◌≡◌, IfOk};
+
+use crate::fragment::Fragment;
+use outside::NoMemory;
+use std::marker::Model;
+use std::sync::ArcSlice;
+
+/// A plan: a handle on a shared list of fragments, which are numbered from 0.
+///
+/// Contracts see it as the list of them.
+#[derive(Drop)]
+pub struct Plan {
+    fragments: ArcSlice<Fragment>,
+}
+
+impl Model for Plan {
+    ghost use Rattle.std.specs.Prelude.{List};
+    ghost use Rattle.std.specs.Arc.{arc_slice_items};
+    ghost use Rattle.fragment_plan.specs.declared.fragment.Fragment.{Fragment};
+
+    ghost Value = { List Fragment };
+
+    ghost view = { λ plan. arc_slice_items plan.fragments };
+}
+
+impl Plan {
+    /// The plan of these fragments. Refuses only for want of memory.
+    pub(crate) fn new(fragments: Vec<Fragment>) -> Result<Plan, NoMemory>
+        ensures { IfOk result (λ plan. plan ≡ fragments.items) }
+    {
+        match ArcSlice::from_vec(fragments) {
+            Ok(fragments) => Ok(Plan { fragments }),
+            Err(_) => Err(NoMemory),
+        }
+    }
+
+    /// Another handle on the same list. Refuses only for want of memory.
+    pub fn again(&self) -> Result<Plan, NoMemory>
+        ensures { IfOk result (λ plan. plan ≡ self.now) }
+    {
+        match self.fragments.clone() {
+            Ok(fragments) => Ok(Plan { fragments }),
+            Err(_) => Err(NoMemory),
+        }
+    }
+
+    /// The fragments, lent.
+    pub fn fragments(&self) -> &[Fragment]
+        ensures { result.now ≡ self.now }
+    {
+        self.fragments.as_slice()
+    }
+}
