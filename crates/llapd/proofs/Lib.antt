@@ -9,3 +9,4 @@ pub mod Scans
 pub mod StripeSums
 pub mod Stripes
 pub mod SumPlan
+pub mod NameLists

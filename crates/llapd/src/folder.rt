@@ -1,8 +1,10 @@
 //! The files of the current folder that a plan can name.
-ghost use Rattle.std.specs.Prelude.{◌≤◌, IfOk, length};
+ghost use Rattle.std.specs.Prelude.{IfOk};
+ghost use Rattle.outside.specs.Folder.{AreNames};
 
+use crate::names::in_order;
 use crate::sum_plan::is_file_name;
-use outside::Name;
+use outside::{Name, NoMemory};
 use std::alloc::{AllocError, AllocFailed};
 use std::{fs, io};
 
@@ -26,6 +28,12 @@ impl From<AllocError> for FolderError {
     }
 }
 
+impl From<NoMemory> for FolderError {
+    fn from(_: NoMemory) -> FolderError {
+        FolderError::NoMemory
+    }
+}
+
 impl<T: Drop> From<AllocFailed<T>> for FolderError {
     fn from(_: AllocFailed<T>) -> FolderError {
         FolderError::NoMemory
@@ -42,21 +50,21 @@ impl From<io::Error> for FolderError {
     }
 }
 
-/// The names of the current folder's files that a plan can name, sorted by their bytes: 4,095 at most.
+/// The names of the current folder's files that a plan can name, sorted by their bytes, each once.
+///
+/// Refuses where the listing answers a fault, where there are more than 4,095 such names, and for want of
+/// memory.
 pub fn file_names(rt: HostRuntime) -> Result<Vec<Name>, FolderError>
-    ensures { IfOk result (λ names. length names.items ≤ 4095) }
+    ensures { IfOk result (λ names. AreNames names.items) }
 {
-    let mut names = Vec::new(rt.alloc());
-    for text in file_texts(rt)? {
-        names.push(Name::new(text))?;
-    }
+    let names = in_order(rt.alloc(), file_texts(rt)?)?;
     if names.len() > MOST_FILES {
         return Err(FolderError::TooMany);
     }
     Ok(names)
 }
 
-/// The names as texts, sorted.
+/// The names as texts, as the listing gives them.
 fn file_texts(rt: HostRuntime) -> Result<Vec<String>, FolderError> {
     let alloc = rt.alloc();
     let mut texts = Vec::new(alloc);
@@ -67,6 +75,5 @@ fn file_texts(rt: HostRuntime) -> Result<Vec<String>, FolderError> {
             texts.push(String::from_str(alloc, name)?)?;
         }
     }
-    texts.sort()?;
     Ok(texts)
 }

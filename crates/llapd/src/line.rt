@@ -12,7 +12,7 @@ use outside::{Bytes, Name, NoMemory};
 use std::alloc::{AllocError, Global};
 
 /// What became of a fragment that sums one column.
-#[derive(Debug, Drop)]
+#[derive(Drop)]
 pub enum Outcome {
     /// The sum of the values that aren't null, or none where there is no such value.
     Sum(Option<i64>),

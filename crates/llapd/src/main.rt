@@ -10,6 +10,7 @@ mod fault_words;
 mod folder;
 mod laws;
 mod line;
+mod names;
 mod plan_bytes;
 mod run;
 mod scan;

@@ -8,7 +8,7 @@ use orc_tail::TailFault;
 use outside::{Failed, NoMemory};
 
 /// Why a scan ended before all values were summed.
-#[derive(Debug, Drop)]
+#[derive(Drop)]
 pub enum Stop {
     /// What was read decides that the fragment fails so.
     Fails(Outcome),

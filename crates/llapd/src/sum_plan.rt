@@ -7,7 +7,7 @@ use outside::{Name, NoMemory};
 use std::alloc::Global;
 
 /// The plan of one fragment: the sum of one column of one file.
-#[derive(Debug, Drop)]
+#[derive(Drop)]
 pub struct SumPlan {
     /// The fragment's name, with which its line begins.
     pub name: Name,

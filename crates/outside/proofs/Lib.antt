@@ -6,3 +6,4 @@ pub mod Runs
 pub mod Slices
 pub mod Varint
 pub mod VarintRuns
+pub mod KnownBytes

@@ -15,3 +15,4 @@ pub mod Runs
 pub mod SliceFeed
 pub mod Told
 pub mod Varint
+pub mod Writing

@@ -2,6 +2,7 @@ ghost use Rattle.std.specs.Prelude.{◌≡◌, ◌≤◌, ◌<◌, ◌+◌, ℕ,
 ghost use Rattle.std.specs.Str.{bytes_eq};
 ghost use Rattle.outside.specs.Cause.{HasCause, Rose};
 ghost use Rattle.outside.specs.Failing.{counted};
+ghost use Rattle.outside.specs.Folder.{AreNames};
 ghost use Rattle.outside.specs.Files.{Files, file_named, HasBytes, IsFile, range_of};
 ghost use Rattle.outside.specs.Told.{Extended};
 ghost use Rattle.outside.specs.declared.file_ref.FileRange.{FileRange};
@@ -27,20 +28,19 @@ pub struct FolderStore<'a, R: Files<File = File> + Drop> {
 }
 
 impl<'a, R: Files<File = File> + Drop> Model for FolderStore<'a, R> {
-    ghost use Rattle.std.specs.Prelude.{◌≤◌, length};
-    ghost use Rattle.outside.specs.Folder.{FolderOf};
+    ghost use Rattle.outside.specs.Folder.{AreNames, FolderOf};
 
     ghost Value = { FolderOf };
 
     ghost view = { λ s. record { names = s.names.now; faults = s.faults } };
 
-    ghost invariant = { λ s. length s.names.now ≤ 4095 };
+    ghost invariant = { λ s. AreNames s.names.now };
 }
 
 impl<'a, R: Files<File = File> + Drop> FolderStore<'a, R> {
     /// A store of the files with these names: at most 4,095, sorted by their bytes, each once.
     pub fn new(files: R, names: &'a [Name]) -> FolderStore<'a, R>
-        requires { length names.now ≤ 4095 }
+        requires { AreNames names.now }
         ensures { result ≡ record { names = names.now; faults = 0 } }
     {
         FolderStore {

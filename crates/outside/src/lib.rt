@@ -30,6 +30,7 @@ mod sure_source;
 mod sure_store;
 mod varints;
 mod world;
+mod writing;
 
 pub use bytes::Bytes;
 pub use exact::{take_byte, take_exactly};
@@ -57,6 +58,3 @@ pub use sure_source::SureSource;
 pub use sure_store::SureStore;
 pub use varints::{take_varint, take_varints};
 pub use world::World;
-
-#[cfg(test)]
-mod tests;

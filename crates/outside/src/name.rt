@@ -5,7 +5,7 @@ use std::marker::Model;
 /// The name of a file, a fragment or a column.
 ///
 /// Contracts see it as the list of its bytes.
-#[derive(Debug, Drop)]
+#[derive(Drop)]
 pub struct Name {
     text: String,
 }

@@ -1,0 +1,3 @@
+pub mod ToldFiles
+pub mod ToldWorld
+pub mod TwoNames
