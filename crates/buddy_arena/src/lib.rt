@@ -16,6 +16,3 @@ mod windows;
 pub use blocks::{mask, order_for};
 pub use free_blocks::find;
 pub use windows::window;
-
-#[cfg(test)]
-mod tests;

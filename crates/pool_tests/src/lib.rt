@@ -1,0 +1,7 @@
+//! The tests of the pool's crates, over their public calls alone.
+#![tactic(auto)]
+
+#[cfg(test)]
+mod blocks;
+#[cfg(test)]
+mod packed_words;
