@@ -6,6 +6,7 @@ use std::alloc::Global;
 /// Columns that have values: kind, encoding, size of the dictionary, rows, PRESENT, DATA, LENGTH, DICTIONARY_DATA.
 const ROWS: &str = "\
 3 0 0 5 FFB0 FD0203D804 . . : 1 null -2 300 null
+3 0 0 3 FFA0 FE0203 . . : 1 null -2
 7 0 0 3 - 616263 FD010002 . : 'a' '' 'bc'
 7 1 2 3 - FD000100 FE0101 6162 : 'a' 'b' 'a'
 7 3 2 3 - 420210 4001C0 6162 : 'a' 'b' 'a'
@@ -40,6 +41,7 @@ const FAULTS: &str = "\
 7 3 2 3 - 8E022B2107D01E0014FCE8 4001C0 6162 : Run(Body, PatchOutOfRun)
 7 3 2 3 - 8E133F21 4001C0 6162 : Run(Body, PatchTooWide)
 7 1 2 3 - FD00 FE0105 6162 : LengthsPastData
+7 1 2 3 - FD000100 FE0102 6162 : LengthsPastData
 7 1 3 3 - FD00 FE0101 6162 : Run(Length, StreamEnds)
 7 1 1 3 - FD00 FFFFFFFFFFFFFFFFFFFFFF 6162 : Run(Length, LongVarint)
 7 3 3 3 - FD00 8E022B2107D01E0014FCE8 6162 : Run(Length, PatchOutOfRun)

@@ -1,5 +1,5 @@
 -- The laws of columns, which this crate's law functions carry. Source: this project's own.
-use Rattle.std.specs.Prelude.{◌≡◌, ℕ, ◌≤◌, ◌⊎◌, List, [], ◌∷◌, length, Option, Some}
+use Rattle.std.specs.Prelude.{◌≡◌, ℕ, ◌≤◌, ◌⊎◌, List, [], ◌∷◌, ◌++◌, length, Option, Some}
 use Rattle.outside.specs.Feed.{Taken}
 use Rattle.orc_values.specs.declared.value.Value.{Value}
 use Rattle.orc_columns.specs.declared.fault.ColumnFault.{ColumnFault}
@@ -38,6 +38,14 @@ Apart plan other = (stream : ℕ) → IsOfPlan plan stream → IsOfPlan other st
 abbrev pub IsNoneOf : List (Option ℕ) → Option ℕ → Type 0
 IsNoneOf [] which = Unit {0}
 IsNoneOf (stream ∷ streams) which = Differ stream which × IsNoneOf streams which
+
+-- takes of some streams in turn, and then of others, are in turn of all of them
+abbrev pub JoinInTurn : Type 0
+JoinInTurn = (streams others : List (Option ℕ)) (front back : List Taken) → InTurn streams front → InTurn others back → InTurn (streams ++ others) (front ++ back)
+
+-- also where there is none of the streams behind
+abbrev pub StopInTurn : Type 0
+StopInTurn = (streams others : List (Option ℕ)) (takes : List Taken) → InTurn streams takes → InTurn (streams ++ others) takes
 
 module _ {F : Type 0} (rest : F → ℕ → Option (List ℕ)) (fed : F → List Taken → F → Type 0) where
   -- takes of one column's streams leave the streams of another as they were

@@ -1,5 +1,5 @@
 //! Laws of columns, as contracts of functions that do nothing.
-ghost use Rattle.orc_columns.specs.Laws.{NeverBoth, HasValuesOrAFault, IsOneList, IsOneFault, GivesTheColumn, LeaveAColumn, LeaveAStream};
+ghost use Rattle.orc_columns.specs.Laws.{NeverBoth, HasValuesOrAFault, IsOneList, IsOneFault, GivesTheColumn, JoinInTurn, StopInTurn, LeaveAColumn, LeaveAStream};
 
 use outside::Feed;
 
@@ -29,4 +29,10 @@ pub fn a_column_has_values_or_a_fault()
 pub fn takes_leave_other_streams<F: Feed>()
     ensures column { LeaveAColumn F.rest F.fed }
     ensures stream { LeaveAStream F.rest F.fed }
+{}
+
+/// Takes of some streams in turn, and then of others, are in turn of all of them, also where the walk stops before the others.
+pub fn takes_in_turn_join()
+    ensures join { JoinInTurn }
+    ensures stop { StopInTurn }
 {}

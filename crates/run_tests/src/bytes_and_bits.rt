@@ -63,10 +63,11 @@ fn byte_vectors(rt: HostRuntime) {
 
 const EIGHT: [bool; 8] = [true, false, false, false, false, false, false, false];
 
-/// Whether one byte gives eight bits, and not nine, and the fault again.
+/// Whether one byte gives eight bits, whatever follows, and not nine, and the fault again.
 fn gives_bits(alloc: Global) -> Option<bool> {
     let byte = b"\xFF\x80".as_slice();
-    let mut feed = SliceFeed::new(vec![in alloc; byte, byte].ok()?);
+    let followed = b"\xFF\x80\x99".as_slice();
+    let mut feed = SliceFeed::new(vec![in alloc; followed, byte].ok()?);
     let mut out = [true; 8];
     let eight = Bits::new(0).fill(&mut feed, &mut out).is_ok() && out == EIGHT;
     let mut bits = Bits::new(1);
