@@ -20,7 +20,7 @@ pub struct Pair {
 /// Gives the next rows of one column and then those of another, at most 1,024, in place of those of `out`.
 ///
 /// The columns have no stream in common, and neither has answered a fault. Its takes are those of the first column's streams
-/// in turn, and then those of the second's. A fault is that of the first column that has no so many rows more, of the two.
+/// in turn, and then those of the second's. A fault is that of one of the two.
 pub fn batch_of_each<F: Feed>(
     alloc: Global,
     feed: &mut F,
