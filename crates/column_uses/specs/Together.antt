@@ -30,9 +30,11 @@ module _ {F : Type 0} (rest : F → ℕ → Option (List ℕ)) (one one' two two
   -- where the streams of both columns are told, the rows of both go on
   abbrev pub BothGoOn : Pair → Type 0
   BothGoOn pair = (s t : Streams) → Tells rest first one.plan s → Tells rest first two.plan t
-      → (a : Streams) × (b : Streams) × Tells rest last one.plan a × Tells rest last two.plan b × RowsGoOn one one' s a pair.one × RowsGoOn two two' t b pair.two
+      → (a : Streams) × (b : Streams) × Tells rest last one.plan a × Tells rest last two.plan b × RowsGoOn one one' s a pair.one
+      × RowsGoOn two two' t b pair.two
 
   -- by two batches
   abbrev pub BothGoOnTwice : Pair → Pair → Type 0
   BothGoOnTwice front back = (s t : Streams) → Tells rest first one.plan s → Tells rest first two.plan t
-      → (a : Streams) × (b : Streams) × Tells rest last one.plan a × Tells rest last two.plan b × RowsGoOn one one' s a (front.one ++ back.one) × RowsGoOn two two' t b (front.two ++ back.two)
+      → (a : Streams) × (b : Streams) × Tells rest last one.plan a × Tells rest last two.plan b
+      × RowsGoOn one one' s a (front.one ++ back.one) × RowsGoOn two two' t b (front.two ++ back.two)

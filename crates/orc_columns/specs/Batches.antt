@@ -60,18 +60,22 @@ FlagsBreak old asked before fault = PresentBreaksOn old asked before.present fau
 
 -- integers of DATA go on with these
 abbrev pub NumbersGoOn : IntegersOf → IntegersOf → Streams → Streams → List ℤ → Type 0
-NumbersGoOn old new before after numbers = OnlyBody before after × GoesOn (IntRun old.version old.signed) old.held new.held before.body after.body numbers
+NumbersGoOn old new before after numbers = OnlyBody before after
+    × GoesOn (IntRun old.version old.signed) old.held new.held before.body after.body numbers
 
 -- the fault is that of a run of them, which breaks before so many more
 abbrev pub NumbersBreak : IntegersOf → ℕ → Streams → ColumnFault → Type 0
-NumbersBreak old asked before fault = BreaksOn (IntRun old.version old.signed) (int_run old.version old.signed) name.Body old.held asked before.body fault
+NumbersBreak old asked before fault = BreaksOn (IntRun old.version old.signed) (int_run old.version old.signed)
+    name.Body old.held asked before.body fault
 
 -- the same of LENGTH
 abbrev pub LengthsGoOn : IntegersOf → IntegersOf → Streams → Streams → List ℤ → Type 0
-LengthsGoOn old new before after numbers = OnlyLengths before after × GoesOn (IntRun old.version old.signed) old.held new.held before.lengths after.lengths numbers
+LengthsGoOn old new before after numbers = OnlyLengths before after
+    × GoesOn (IntRun old.version old.signed) old.held new.held before.lengths after.lengths numbers
 
 abbrev pub LengthsBreak : IntegersOf → ℕ → Streams → ColumnFault → Type 0
-LengthsBreak old asked before fault = BreaksOn (IntRun old.version old.signed) (int_run old.version old.signed) name.Length old.held asked before.lengths fault
+LengthsBreak old asked before fault = BreaksOn (IntRun old.version old.signed) (int_run old.version old.signed)
+    name.Length old.held asked before.lengths fault
 
 -- the same of bits of DATA
 abbrev pub BitsGoOn : BitsOf → BitsOf → Streams → Streams → List Bool → Type 0
@@ -101,7 +105,8 @@ AreRefused numbers room NoMemory = ⊥
 -- with the lengths that were given before, which left so much room, the fault is the first of so many lengths more
 abbrev pub LengthsRefuse : IntegersOf → ℕ → ℕ → Streams → ColumnFault → Type 0
 LengthsRefuse old asked room before fault =
-    (start : List ℕ) (given : List ℕ) → Between (IntRun old.version false) start (map pos given) old.held before.lengths → LengthsFail old.version start (room + sum given) (length given + asked) fault
+    (start : List ℕ) (given : List ℕ) → Between (IntRun old.version false) start (map pos given) old.held before.lengths
+    → LengthsFail old.version start (room + sum given) (length given + asked) fault
 
 -- ---- values
 
@@ -109,7 +114,8 @@ LengthsRefuse old asked room before fault =
 abbrev pub ReadsPlan : ColumnPlan → ValueReader → Type 0
 ReadsPlan plan (reader.Bits b) = (b.stream ≡ plan.body) × (b.fault ≡ None)
 ReadsPlan plan (reader.Integers i) = (i.stream ≡ plan.body) × (i.signed ≡ true) × (i.fault ≡ None)
-ReadsPlan plan (reader.Texts t) = (t.lengths.stream ≡ plan.length) × (t.lengths.signed ≡ false) × (t.lengths.fault ≡ None) × (t.data ≡ plan.body)
+ReadsPlan plan (reader.Texts t) = (t.lengths.stream ≡ plan.length) × (t.lengths.signed ≡ false) × (t.lengths.fault ≡ None)
+    × (t.data ≡ plan.body)
 ReadsPlan plan (reader.Dictionary d) = (d.places.stream ≡ plan.body) × (d.places.signed ≡ false) × (d.places.fault ≡ None)
 
 -- the typed list of a spelling's values
@@ -133,11 +139,13 @@ pub record ValuesGoOn (size : ℕ) (flags : List Bool) (old new : ValueReader) (
   pub present : after.present ≡ before.present
   pub enough : length more ≡ present_count flags
   pub rows_are : column_of flags typed ≡ rows_of flags more
-  pub goes : (start : Streams) (given : List Value) → ValuesBetween size start given old before → ValuesBetween size start (given ++ more) new after
+  pub goes : (start : Streams) (given : List Value) → ValuesBetween size start given old before
+      → ValuesBetween size start (given ++ more) new after
 
 -- the fault is the first of so many values more
 abbrev pub ValuesBreak : ℕ → ℕ → ValueReader → Streams → ColumnFault → Type 0
-ValuesBreak size count old before fault = (start : Streams) (given : List Value) → ValuesBetween size start given old before → ValuesFail size start (length given + count) (spelling_in old) fault
+ValuesBreak size count old before fault = (start : Streams) (given : List Value) → ValuesBetween size start given old before
+    → ValuesFail size start (length given + count) (spelling_in old) fault
 
 -- nothing was given of these values yet, and PRESENT is as it was
 abbrev pub ValuesBegin : ℕ → Streams → Streams → ValueReader → Type 0

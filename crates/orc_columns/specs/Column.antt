@@ -60,9 +60,12 @@ IsNegative (negsuc n) = Unit {0}
 -- The first fault of so many lengths of texts with so many bytes: of LENGTH's runs; a length with its 64th bit set;
 -- or that they are more bytes than there are.
 pub data LengthsFail (version : Version) (stream : List ℕ) (limit count : ℕ) : ColumnFault → Type 0 where
-  broken : {fault : RunFault} → Breaks (IntRun version false) (int_run version false) stream count fault → LengthsFail version stream limit count (Run name.Length fault)
-  negative : (numbers : List ℤ) (number : ℤ) → length numbers ≡ count → AreNumbers version false stream numbers → Contains numbers number → IsNegative number → LengthsFail version stream limit count NegativeLength
-  past : (lengths : List ℕ) → length lengths ≡ count → AreNumbers version false stream (map pos lengths) → limit < sum lengths → LengthsFail version stream limit count LengthsPastData
+  broken : {fault : RunFault} → Breaks (IntRun version false) (int_run version false) stream count fault
+      → LengthsFail version stream limit count (Run name.Length fault)
+  negative : (numbers : List ℤ) (number : ℤ) → length numbers ≡ count → AreNumbers version false stream numbers
+      → Contains numbers number → IsNegative number → LengthsFail version stream limit count NegativeLength
+  past : (lengths : List ℕ) → length lengths ≡ count → AreNumbers version false stream (map pos lengths) → limit < sum lengths
+      → LengthsFail version stream limit count LengthsPastData
 
 -- ---- values that aren't null
 
@@ -92,13 +95,20 @@ AreValues (Dictionary version) size s values =
 -- The first fault of so many values that aren't null.
 pub data ValuesFail (size : ℕ) (s : Streams) (count : ℕ) : Spelling → ColumnFault → Type 0 where
   bits : {fault : RunFault} → Breaks BitRun bit_run s.body count fault → ValuesFail size s count Bits (Run name.Body fault)
-  integers : {version : Version} {fault : RunFault} → Breaks (IntRun version true) (int_run version true) s.body count fault → ValuesFail size s count (Integers version) (Run name.Body fault)
-  texts : {version : Version} {fault : ColumnFault} → LengthsFail version s.lengths (length s.body) count fault → ValuesFail size s count (Texts version) fault
-  entries : {version : Version} {fault : ColumnFault} → LengthsFail version s.lengths (length s.dictionary) size fault → ValuesFail size s count (Dictionary version) fault
-  places : {version : Version} {fault : RunFault} (lengths : List ℕ) → length lengths ≡ size → AreLengths version s.lengths (length s.dictionary) lengths
-      → Breaks (IntRun version false) (int_run version false) s.body count fault → ValuesFail size s count (Dictionary version) (Run name.Body fault)
-  index : {version : Version} (lengths : List ℕ) (numbers : List ℤ) (place : ℕ) → length lengths ≡ size → AreLengths version s.lengths (length s.dictionary) lengths
-      → length numbers ≡ count → AreNumbers version false s.body numbers → Contains (places_of numbers) place → size ≤ place → ValuesFail size s count (Dictionary version) IndexOutOfDictionary
+  integers : {version : Version} {fault : RunFault} → Breaks (IntRun version true) (int_run version true) s.body count fault
+      → ValuesFail size s count (Integers version) (Run name.Body fault)
+  texts : {version : Version} {fault : ColumnFault} → LengthsFail version s.lengths (length s.body) count fault
+      → ValuesFail size s count (Texts version) fault
+  entries : {version : Version} {fault : ColumnFault} → LengthsFail version s.lengths (length s.dictionary) size fault
+      → ValuesFail size s count (Dictionary version) fault
+  places : {version : Version} {fault : RunFault} (lengths : List ℕ) → length lengths ≡ size
+      → AreLengths version s.lengths (length s.dictionary) lengths
+      → Breaks (IntRun version false) (int_run version false) s.body count fault
+      → ValuesFail size s count (Dictionary version) (Run name.Body fault)
+  index : {version : Version} (lengths : List ℕ) (numbers : List ℤ) (place : ℕ) → length lengths ≡ size
+      → AreLengths version s.lengths (length s.dictionary) lengths
+      → length numbers ≡ count → AreNumbers version false s.body numbers → Contains (places_of numbers) place → size ≤ place
+      → ValuesFail size s count (Dictionary version) IndexOutOfDictionary
 
 -- ---- a column
 
@@ -124,6 +134,8 @@ pub record IsColumn (plan : ColumnPlan) (s : Streams) (rows : List Value) : Type
 -- The column has no values in so many rows: this is the first condition that refuses it.
 pub data Fails (plan : ColumnPlan) (s : Streams) (rows : ℕ) : ColumnFault → Type 0 where
   encoding : spelling_of plan.kind plan.encoding ≡ None → Fails plan s rows BadEncoding
-  nulls : {fault : RunFault} (spelling : Spelling) → spelling_of plan.kind plan.encoding ≡ Some spelling → PresentBreaks s.present rows fault → Fails plan s rows (Run name.Present fault)
-  values : {fault : ColumnFault} (spelling : Spelling) (flags : List Bool) → spelling_of plan.kind plan.encoding ≡ Some spelling → length flags ≡ rows → ArePresent s.present flags
+  nulls : {fault : RunFault} (spelling : Spelling) → spelling_of plan.kind plan.encoding ≡ Some spelling
+      → PresentBreaks s.present rows fault → Fails plan s rows (Run name.Present fault)
+  values : {fault : ColumnFault} (spelling : Spelling) (flags : List Bool) → spelling_of plan.kind plan.encoding ≡ Some spelling
+      → length flags ≡ rows → ArePresent s.present flags
       → ValuesFail plan.dictionary_size s (present_count flags) spelling fault → Fails plan s rows fault

@@ -17,7 +17,8 @@ use Rattle.orc_columns.specs.Turns.{InTurn}
 
 -- the number of one of the plan's streams
 abbrev pub IsOfPlan : ColumnPlan → ℕ → Type 0
-IsOfPlan plan stream = (plan.present ≡ Some stream) ⊎ (plan.body ≡ Some stream) ⊎ (plan.length ≡ Some stream) ⊎ (plan.dictionary ≡ Some stream)
+IsOfPlan plan stream = (plan.present ≡ Some stream) ⊎ (plan.body ≡ Some stream) ⊎ (plan.length ≡ Some stream)
+    ⊎ (plan.dictionary ≡ Some stream)
 
 -- all takes are of the plan's streams
 abbrev pub AllOfPlan : ColumnPlan → List Taken → Type 0
@@ -112,9 +113,11 @@ OnlyDictionary before after = (after.present ≡ before.present) × (after.body 
 
 -- a decoder of this stream goes on with these values
 abbrev pub GoesOn : {V : Type 0} → (List ℕ → List V → Type 0) → List V → List V → List ℕ → List ℕ → List V → Type 0
-GoesOn {V} Form old new before after values = (start : List ℕ) (given : List V) → Between Form start given old before → Between Form start (given ++ values) new after
+GoesOn {V} Form old new before after values = (start : List ℕ) (given : List V) → Between Form start given old before
+    → Between Form start (given ++ values) new after
 
 -- the fault is that of a run of this stream, which breaks before so many values more
 abbrev pub BreaksOn : {V : Type 0} → (List ℕ → List V → Type 0) → Reader (List V) → StreamName → List V → ℕ → List ℕ → ColumnFault → Type 0
 BreaksOn {V} Form read name old asked before fault =
-    (broken : RunFault) × (fault ≡ Run name broken) × ((start : List ℕ) (given : List V) → Between Form start given old before → Breaks Form read start (length given + asked) broken)
+    (broken : RunFault) × (fault ≡ Run name broken)
+    × ((start : List ℕ) (given : List V) → Between Form start given old before → Breaks Form read start (length given + asked) broken)

@@ -62,14 +62,16 @@ Sized plan s = (plan.body_len ≡ length s.body) × (plan.dictionary_len ≡ len
 
 -- so many rows have a value, by PRESENT alone
 abbrev pub StandingRows : ℕ → Streams → Streams → ℕ → Type 0
-StandingRows rows before after standing = OnlyPresent before after × ((flags : List Bool) × (length flags ≡ rows) × ArePresent before.present flags × (standing ≡ present_count flags))
+StandingRows rows before after standing = OnlyPresent before after
+    × ((flags : List Bool) × (length flags ≡ rows) × ArePresent before.present flags × (standing ≡ present_count flags))
 
 abbrev pub NoStandingRows : ℕ → Streams → ColumnFault → Type 0
 NoStandingRows rows before fault = (broken : RunFault) × (fault ≡ Run name.Present broken) × PresentBreaks before.present rows broken
 
 -- so many lengths of texts, which have no more bytes together than there are
 abbrev pub JudgedLengths : Version → ℕ → ℕ → Streams → Streams → Type 0
-JudgedLengths version limit count before after = OnlyLengths before after × ((lengths : List ℕ) × (length lengths ≡ count) × AreLengths version before.lengths limit lengths)
+JudgedLengths version limit count before after = OnlyLengths before after
+    × ((lengths : List ℕ) × (length lengths ≡ count) × AreLengths version before.lengths limit lengths)
 
 -- so many values that aren't null
 abbrev pub JudgedValues : Spelling → ℕ → ℕ → Streams → Type 0

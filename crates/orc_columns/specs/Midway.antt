@@ -28,16 +28,19 @@ abbrev pub ValuesBetween : ℕ → Streams → List Value → ValueReader → St
 ValuesBetween size start given (reader.Bits b) rest =
     (bits : List Bool) × Between BitRun start.body bits b.held rest.body × (given ≡ map (λ b. value.Bool b) bits) × LeavesTexts start rest
 ValuesBetween size start given (reader.Integers i) rest =
-    (numbers : List ℤ) × Between (IntRun i.version true) start.body numbers i.held rest.body × (given ≡ map (λ n. value.Int n) numbers) × LeavesTexts start rest
+    (numbers : List ℤ) × Between (IntRun i.version true) start.body numbers i.held rest.body × (given ≡ map (λ n. value.Int n) numbers)
+    × LeavesTexts start rest
 ValuesBetween size start given (reader.Texts t) rest =
     (lengths : List ℕ) × Between (IntRun t.lengths.version false) start.lengths (map pos lengths) t.lengths.held rest.lengths
     × (t.left + sum lengths ≡ length start.body) × (rest.body ≡ drop (sum lengths) start.body)
     × (given ≡ map (λ t. value.Text t) (slices 0 lengths start.body)) × (rest.dictionary ≡ start.dictionary)
 ValuesBetween size start given (reader.Dictionary d) rest =
-    (lengths : List ℕ) × (numbers : List ℤ) × (length lengths ≡ size) × AreLengths d.places.version start.lengths (length start.dictionary) lengths
+    (lengths : List ℕ) × (numbers : List ℤ) × (length lengths ≡ size)
+    × AreLengths d.places.version start.lengths (length start.dictionary) lengths
     × (d.entries ≡ slices 0 lengths start.dictionary) × Between (IntRun d.places.version false) start.body numbers d.places.held rest.body
     × All (λ place. place < size) (places_of numbers) × (given ≡ map (entry_text d.entries) (places_of numbers))
-    × Spells (IntRun d.places.version false) start.lengths (map pos lengths) rest.lengths × (rest.dictionary ≡ drop (sum lengths) start.dictionary)
+    × Spells (IntRun d.places.version false) start.lengths (map pos lengths) rest.lengths
+    × (rest.dictionary ≡ drop (sum lengths) start.dictionary)
 
 -- how a reader's values are spelled
 abbrev pub spelling_in : ValueReader → Spelling

@@ -22,4 +22,5 @@ pub record FillsIn {F V : Type 0} (rest : F → ℕ → Option (List ℕ)) (fed 
   pub led : fed first takes last
   pub own : AllIn stream takes
   pub cause : Cause (count first) (count last) (IsErrAnd answer IsReadFault)
-  pub told : (bytes : List ℕ) → rest_in rest first stream ≡ Some bytes → Continues Run read before held asked bytes (rest_in rest last stream) answer
+  pub told : (bytes : List ℕ) → rest_in rest first stream ≡ Some bytes
+      → Continues Run read before held asked bytes (rest_in rest last stream) answer

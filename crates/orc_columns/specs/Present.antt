@@ -31,9 +31,12 @@ PresentBreaksWith start count fault = PresentBreaks start count fault
 -- what a batch of so many flags says of what was given before, and of what is left
 abbrev pub PresentContinues : PresentOf → PresentOf → ℕ → List ℕ → Option (List ℕ) → Result (List Bool) RunFault → Type 0
 PresentContinues old new asked bytes after (Ok flags) =
-    (rest : List ℕ) × (after ≡ Some rest) × ((start : List ℕ) (given : List Bool) → PresentBetween old.state start given old.held bytes → PresentBetween new.state start (given ++ flags) new.held rest)
+    (rest : List ℕ) × (after ≡ Some rest)
+    × ((start : List ℕ) (given : List Bool) → PresentBetween old.state start given old.held bytes
+    → PresentBetween new.state start (given ++ flags) new.held rest)
 PresentContinues old new asked bytes after (Err fault) =
-    (start : List ℕ) (given : List Bool) → PresentBetween old.state start given old.held bytes → PresentBreaksWith start (length given + asked) fault
+    (start : List ℕ) (given : List Bool) → PresentBetween old.state start given old.held bytes
+    → PresentBreaksWith start (length given + asked) fault
 
 -- A batch of flags was given: it took from PRESENT alone, a failed read has its cause, and where the stream was told,
 -- the flags are the next.
@@ -42,13 +45,17 @@ pub record PresentFills {F : Type 0} (rest : F → ℕ → Option (List ℕ)) (f
   pub led : fed first takes last
   pub own : AllIn old.stream takes
   pub cause : Cause (count first) (count last) (IsErrAnd answer IsReadFault)
-  pub told : (bytes : List ℕ) → rest_in rest first old.stream ≡ Some bytes → PresentContinues old new asked bytes (rest_in rest last old.stream) answer
+  pub told : (bytes : List ℕ) → rest_in rest first old.stream ≡ Some bytes
+      → PresentContinues old new asked bytes (rest_in rest last old.stream) answer
 
 -- the flags of PRESENT go on with these
 abbrev pub PresentGoesOn : PresentOf → PresentOf → List ℕ → List ℕ → List Bool → Type 0
-PresentGoesOn old new before after flags = (start : List ℕ) (given : List Bool) → PresentBetween old.state start given old.held before → PresentBetween new.state start (given ++ flags) new.held after
+PresentGoesOn old new before after flags = (start : List ℕ) (given : List Bool) → PresentBetween old.state start given old.held before
+    → PresentBetween new.state start (given ++ flags) new.held after
 
 -- the fault is that of a run of PRESENT, which breaks before so many flags more
 abbrev pub PresentBreaksOn : PresentOf → ℕ → List ℕ → ColumnFault → Type 0
 PresentBreaksOn old asked before fault =
-    (broken : RunFault) × (fault ≡ Run name.Present broken) × ((start : List ℕ) (given : List Bool) → PresentBetween old.state start given old.held before → PresentBreaks start (length given + asked) broken)
+    (broken : RunFault) × (fault ≡ Run name.Present broken)
+    × ((start : List ℕ) (given : List Bool) → PresentBetween old.state start given old.held before
+    → PresentBreaks start (length given + asked) broken)

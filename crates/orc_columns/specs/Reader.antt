@@ -31,11 +31,13 @@ whole_reader plan present values = record { plan = plan; present = present; valu
 
 -- the rows that were given go on with these
 abbrev pub RowsGoOn : ReaderOf → ReaderOf → Streams → Streams → List Value → Type 0
-RowsGoOn old new before after rows = (start : Streams) (given : List Value) → Midway old start given before → Midway new start (given ++ rows) after
+RowsGoOn old new before after rows = (start : Streams) (given : List Value) → Midway old start given before
+    → Midway new start (given ++ rows) after
 
 -- the fault is the first condition that refuses so many rows more
 abbrev pub RowsFail : ReaderOf → ℕ → Streams → ColumnFault → Type 0
-RowsFail old rows before fault = (start : Streams) (given : List Value) → Midway old start given before → Fails old.plan start (length given + rows) fault
+RowsFail old rows before fault = (start : Streams) (given : List Value) → Midway old start given before
+    → Fails old.plan start (length given + rows) fault
 
 -- the reader stands before the first row of what is left
 abbrev pub Begins : Streams → Streams → ReaderOf → Type 0

@@ -11,7 +11,8 @@ use Rattle.orc_columns.specs.Spelling.{spelling_of}
 -- such a list is one, too.
 abbrev pub InTurn : List (Option ℕ) → List Taken → Type 0
 InTurn [] takes = takes ≡ []
-InTurn (stream ∷ others) takes = (front : List Taken) × (back : List Taken) × (takes ≡ front ++ back) × AllIn stream front × InTurn others back
+InTurn (stream ∷ others) takes = (front : List Taken) × (back : List Taken) × (takes ≡ front ++ back) × AllIn stream front
+    × InTurn others back
 
 -- one stream
 abbrev pub alone : Option ℕ → List (Option ℕ)

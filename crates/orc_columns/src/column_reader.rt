@@ -48,12 +48,12 @@ impl Model for ColumnReader {
 impl ColumnReader {
     /// A reader of a column from its first row.
     ///
-    /// It reads a dictionary, where the column has one: all its lengths, and then the bytes of all its texts. For other spellings it
-    /// takes nothing. The plan's streams have different numbers, and where the feed tells them `body_len` and
-    /// `dictionary_len` are theirs.
+    /// It reads a dictionary, where the column has one: all its lengths, and then the bytes of all its texts, and no more than
+    /// these. For other spellings it takes nothing, and the feed stays as it is. The plan's streams have different numbers, and
+    /// where the feed tells them `body_len` and `dictionary_len` are theirs.
     ///
-    /// A fault is the first condition that refuses a column of no rows: the encoding, or one of the dictionary's lengths. `Read` comes only
-    /// where the feed failed, and `NoMemory` where memory was refused.
+    /// A fault is the first condition that refuses a column of no rows: the encoding, or one of the dictionary's lengths.
+    /// `Read` comes only where the feed failed, and `NoMemory` where memory was refused.
     ///
     /// Source: Apache ORC specification v1, "Column Encodings".
     pub fn start<F: Feed>(
@@ -86,9 +86,9 @@ impl ColumnReader {
     /// Gives the next rows, at most 1,024, in place of those of `out`.
     ///
     /// It takes from PRESENT, then from LENGTH where texts are spelled one by one, then from DATA, and from each no
-    /// more than the runs that the rows need. A fault is the first condition that refuses as many rows as were asked for so far;
-    /// `Read` comes only where the feed failed in this call, and `NoMemory` where memory was refused. After a fault each later call answers the
-    /// same and takes nothing, and what `out` holds isn't promised.
+    /// more than the runs that the rows need. A fault is the first condition that refuses as many rows as were asked for so
+    /// far; `Read` comes only where the feed failed in this call, and `NoMemory` where memory was refused. After a fault each
+    /// later call answers the same and takes nothing, and what `out` holds isn't promised.
     ///
     /// Source: Apache ORC specification v1, "Column Encodings".
     pub fn next_batch<F: Feed>(
@@ -139,7 +139,8 @@ fn fill_rows<F: Feed>(
     ensures spelling { spelling_in values.new ≡ spelling_in values.old }
     ensures ready { (plan : ColumnPlan) → IsReady plan present.old values.old → OnOk result (IsReady plan present.new values.new) }
     ensures rows { OnOk result (length out.new ≡ rows) }
-    ensures kinds { (plan : ColumnPlan) → spelling_of plan.kind plan.encoding ≡ Some (spelling_in values.old) → OnOk result (All (IsOfKind plan.kind) out.new) }
+    ensures kinds { (plan : ColumnPlan) → spelling_of plan.kind plan.encoding ≡ Some (spelling_in values.old)
+        → OnOk result (All (IsOfKind plan.kind) out.new) }
     ensures no_read { IfErr result HoldsNoRead }
     ensures draws { (plan : ColumnPlan) → StreamsDiffer plan → IsReady plan present.old values.old →
         Draws F.rest F.fed F.fault_count plan (plan.present ∷ value_streams plan (spelling_in values.old)) feed.old feed.new

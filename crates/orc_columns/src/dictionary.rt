@@ -49,7 +49,8 @@ pub(crate) fn dictionary_rows<F: Feed>(
     ensures spelling { spelling_in (reader.Dictionary dictionary.new) ≡ spelling_in (reader.Dictionary dictionary.old) }
     ensures rows { IfOk result (λ typed. entries_in typed ≡ length flags.now) }
     ensures typed { IfOk result (IsTyped (spelling_in (reader.Dictionary dictionary.old))) }
-    ensures ready { (plan : ColumnPlan) → ReadsPlan plan (reader.Dictionary dictionary.old) → OnOk result (ReadsPlan plan (reader.Dictionary dictionary.new)) }
+    ensures ready { (plan : ColumnPlan) → ReadsPlan plan (reader.Dictionary dictionary.old)
+        → OnOk result (ReadsPlan plan (reader.Dictionary dictionary.new)) }
     ensures no_read { IfErr result HoldsNoRead }
     ensures draws { (plan : ColumnPlan) → StreamsDiffer plan → ReadsPlan plan (reader.Dictionary dictionary.old) →
         Draws F.rest F.fed F.fault_count plan (alone plan.body) feed.old feed.new

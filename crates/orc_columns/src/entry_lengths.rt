@@ -51,7 +51,8 @@ fn push_lengths<F: Feed>(
     ensures no_read { IfErr result HoldsNoRead }
     ensures draws { (plan : ColumnPlan) → StreamsDiffer plan → integers.old.stream ≡ plan.length → integers.old.fault ≡ None →
         Draws F.rest F.fed F.fault_count plan (alone plan.length) feed.old feed.new
-        (LengthsGoOn integers.old integers.new) (LengthsBreak integers.old count) (placed (drop (length into.old.items) into.new.items) result) }
+        (LengthsGoOn integers.old integers.new) (LengthsBreak integers.old count)
+        (placed (drop (length into.old.items) into.new.items) result) }
 {
     let mut lengths = [0; BATCH];
     fill_lengths(integers, feed, &mut lengths, count)?;

@@ -79,7 +79,8 @@ fn judge<F: Feed>(
 fn standing_rows<F: Feed>(plan: ColumnPlan, feed: &mut F, rows: u64) -> Result<u64, ColumnFault>
     requires differ { StreamsDiffer plan }
     ensures judged { IfErr result IsJudged }
-    ensures draws { Draws F.rest F.fed F.fault_count plan (alone plan.present) feed.old feed.new (StandingRows rows) (NoStandingRows rows) result }
+    ensures draws { Draws F.rest F.fed F.fault_count plan (alone plan.present) feed.old feed.new
+        (StandingRows rows) (NoStandingRows rows) result }
 {
     let mut present = Present::new(plan.present);
     match count_flags(feed, &mut present, rows) {

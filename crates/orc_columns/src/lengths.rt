@@ -31,7 +31,8 @@ pub(crate) fn next_lengths<F: Feed>(
     ensures whole { lengths.old.fault ≡ None → OnOk result (lengths.new.fault ≡ None) }
     ensures total { IfOk result (TotalOf (take count entries.new) room) }
     ensures no_read { IfErr result HoldsNoRead }
-    ensures draws { (plan : ColumnPlan) → StreamsDiffer plan → lengths.old.stream ≡ plan.length → lengths.old.signed ≡ false → lengths.old.fault ≡ None →
+    ensures draws { (plan : ColumnPlan) → StreamsDiffer plan → lengths.old.stream ≡ plan.length → lengths.old.signed ≡ false
+        → lengths.old.fault ≡ None →
         Draws F.rest F.fed F.fault_count plan (alone plan.length) feed.old feed.new
         (LengthsGoOn lengths.old lengths.new) (LengthsRefuse lengths.old count room) (placed (take count entries.new) result) }
 {

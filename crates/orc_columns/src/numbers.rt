@@ -11,7 +11,7 @@ use outside::{Feed, RunFault};
 const BATCH: usize = 1024;
 
 /// What judging a column asks of its integers, as unsigned numbers of 64 bits.
-#[derive(Clone, Copy, Debug, PartialEq, Eq)]
+#[derive(Clone, Copy)]
 pub(crate) struct Summary {
     /// Their sum.
     pub(crate) total: u128,
@@ -28,7 +28,8 @@ pub(crate) fn read_numbers<F: Feed>(
     count: u64,
 ) -> Result<Summary, RunFault>
     requires whole { integers.old.fault ≡ None }
-    ensures { ReadsNumbers F.rest F.fed F.fault_count (IntRun integers.old.version integers.old.signed) (int_run integers.old.version integers.old.signed)
+    ensures { ReadsNumbers F.rest F.fed F.fault_count (IntRun integers.old.version integers.old.signed)
+        (int_run integers.old.version integers.old.signed)
         integers.old.stream feed.old feed.new integers.old.held integers.new.held count result }
 {
     let mut batch = [0; BATCH];

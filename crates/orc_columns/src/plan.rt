@@ -6,7 +6,7 @@
 /// 3 DICTIONARY_V2. A stream that the stripe hasn't is None, and is read as an empty one.
 ///
 /// Source: Apache ORC specification v1, "Column Encodings".
-#[derive(Clone, Copy, Debug, PartialEq, Eq)]
+#[derive(Clone, Copy)]
 pub struct ColumnPlan {
     /// The number of the column's kind.
     pub kind: u64,

@@ -10,7 +10,7 @@ use outside::{Feed, RunFault};
 use std::marker::Model;
 
 /// What is known of PRESENT.
-#[derive(Clone, Copy, Debug, PartialEq, Eq)]
+#[derive(Clone, Copy)]
 pub(crate) enum PresentState {
     /// Nothing was read of it.
     Unread,

@@ -3,7 +3,7 @@ ghost use Rattle.std.specs.Prelude.{◌≡◌};
 ghost use Rattle.orc_columns.specs.Spelling.{spelling_of};
 
 /// The version of the runs of integers that a column uses.
-#[derive(Clone, Copy, Debug, PartialEq, Eq)]
+#[derive(Clone, Copy)]
 pub enum Version {
     /// Version 1.
     One,
@@ -12,7 +12,7 @@ pub enum Version {
 }
 
 /// How a column spells those of its values that aren't null.
-#[derive(Clone, Copy, Debug, PartialEq, Eq)]
+#[derive(Clone, Copy)]
 pub enum Spelling {
     /// Truth values: a bit each in DATA.
     Bits,

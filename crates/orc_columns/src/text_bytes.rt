@@ -22,9 +22,11 @@ pub(crate) fn read_bytes<F: Feed>(
     ensures len { OnOk result (length bytes.new.items ≡ count) }
     ensures no_read { IfErr result HoldsNoRead }
     ensures body { (plan : ColumnPlan) → StreamsDiffer plan → stream ≡ plan.body →
-        Draws F.rest F.fed F.fault_count plan (alone plan.body) feed.old feed.new (BodyTaken count) (BodyShort count) (placed bytes.new.items result) }
+        Draws F.rest F.fed F.fault_count plan (alone plan.body) feed.old feed.new
+        (BodyTaken count) (BodyShort count) (placed bytes.new.items result) }
     ensures dictionary { (plan : ColumnPlan) → StreamsDiffer plan → stream ≡ plan.dictionary →
-        Draws F.rest F.fed F.fault_count plan (alone plan.dictionary) feed.old feed.new (DictionaryTaken count) (DictionaryShort count) (placed bytes.new.items result) }
+        Draws F.rest F.fed F.fault_count plan (alone plan.dictionary) feed.old feed.new
+        (DictionaryTaken count) (DictionaryShort count) (placed bytes.new.items result) }
 {
     bytes.clear();
     bytes.resize(count as usize, 0)?;
@@ -39,9 +41,11 @@ fn take_bytes<F: Feed>(
 ) -> Result<(), ColumnFault>
     ensures no_read { IfErr result HoldsNoRead }
     ensures body { (plan : ColumnPlan) → StreamsDiffer plan → stream ≡ plan.body →
-        Draws F.rest F.fed F.fault_count plan (alone plan.body) feed.old feed.new (BodyTaken (length into.old)) (BodyShort (length into.old)) (placed into.new result) }
+        Draws F.rest F.fed F.fault_count plan (alone plan.body) feed.old feed.new
+        (BodyTaken (length into.old)) (BodyShort (length into.old)) (placed into.new result) }
     ensures dictionary { (plan : ColumnPlan) → StreamsDiffer plan → stream ≡ plan.dictionary →
-        Draws F.rest F.fed F.fault_count plan (alone plan.dictionary) feed.old feed.new (DictionaryTaken (length into.old)) (DictionaryShort (length into.old)) (placed into.new result) }
+        Draws F.rest F.fed F.fault_count plan (alone plan.dictionary) feed.old feed.new
+        (DictionaryTaken (length into.old)) (DictionaryShort (length into.old)) (placed into.new result) }
 {
     match take_some(feed, stream, into) {
         Ok(()) => Ok(()),

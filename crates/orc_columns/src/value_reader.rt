@@ -134,7 +134,8 @@ fn number_rows<F: Feed>(
     ensures spelling { integers.new.version ≡ integers.old.version }
     ensures rows { IfOk result (λ typed. entries_in typed ≡ length flags.now) }
     ensures typed { IfOk result (IsTyped (spelling_in (reader.Integers integers.old))) }
-    ensures ready { (plan : ColumnPlan) → ReadsPlan plan (reader.Integers integers.old) → OnOk result (ReadsPlan plan (reader.Integers integers.new)) }
+    ensures ready { (plan : ColumnPlan) → ReadsPlan plan (reader.Integers integers.old)
+        → OnOk result (ReadsPlan plan (reader.Integers integers.new)) }
     ensures no_read { IfErr result HoldsNoRead }
     ensures draws { (plan : ColumnPlan) → StreamsDiffer plan → ReadsPlan plan (reader.Integers integers.old) →
         Draws F.rest F.fed F.fault_count plan (alone plan.body) feed.old feed.new

@@ -30,8 +30,11 @@ bytes_for count = (count + 7) / 8
 
 -- A stream spells bits exactly where it spells as many bytes as they need, and they are the first bits of these.
 abbrev pub BitsAreSpelled : Type 0
-BitsAreSpelled = (stream rest : List ℕ) (values : List Bool) → Spells BitRun stream values rest ↔ ((bytes : List ℕ) × Spells ByteRun stream bytes rest × (length bytes ≡ bytes_for (length values)) × (values ≡ take (length values) (bits_of bytes)))
+BitsAreSpelled = (stream rest : List ℕ) (values : List Bool)
+    → Spells BitRun stream values rest ↔ ((bytes : List ℕ) × Spells ByteRun stream bytes rest
+    × (length bytes ≡ bytes_for (length values)) × (values ≡ take (length values) (bits_of bytes)))
 
 -- and it breaks before so many bits exactly where it breaks before these bytes, with the same fault
 abbrev pub BitsBreak : Type 0
-BitsBreak = (stream : List ℕ) (count : ℕ) (fault : RunFault) → Breaks BitRun bit_run stream count fault ↔ Breaks ByteRun byte_run stream (bytes_for count) fault
+BitsBreak = (stream : List ℕ) (count : ℕ) (fault : RunFault)
+    → Breaks BitRun bit_run stream count fault ↔ Breaks ByteRun byte_run stream (bytes_for count) fault

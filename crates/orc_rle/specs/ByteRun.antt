@@ -11,7 +11,8 @@ use Rattle.outside.specs.Runs.{Breaks}
 -- literals as it is below 256.
 pub data ByteRun : List ℕ → List ℕ → Type 0 where
   repeated : {control value : ℕ} → control < 128 → ByteRun (control ∷ value ∷ []) (replicate (control + 3) value)
-  literals : {control : ℕ} {values : List ℕ} → 128 ≤ control → control < 256 → length values ≡ 256 - control → ByteRun (control ∷ values) values
+  literals : {control : ℕ} {values : List ℕ} → 128 ≤ control → control < 256 → length values ≡ 256 - control
+      → ByteRun (control ∷ values) values
 
 -- ---- reading a run, with its first fault
 

@@ -39,7 +39,8 @@ pub record FindsEmpty {F V : Type 0} (rest : F → ℕ → Option (List ℕ)) (f
   pub told : (bytes : List ℕ) → rest first stream ≡ Some bytes → NeedsByte before asked bytes × (rest last stream ≡ Some bytes)
 
 -- what it did, by its answer: it filled, or broke, as ever, or it found no byte
-abbrev pub FillsOrFindsEmpty : {F V : Type 0} → (F → ℕ → Option (List ℕ)) → (F → List Taken → F → Type 0) → (F → ℕ) → (List ℕ → List V → Type 0) → Reader (List V) → ℕ → F → F → List V → List V → ℕ → List V → Result Bool RunFault → Type 0
+abbrev pub FillsOrFindsEmpty : {F V : Type 0} → (F → ℕ → Option (List ℕ)) → (F → List Taken → F → Type 0) → (F → ℕ)
+    → (List ℕ → List V → Type 0) → Reader (List V) → ℕ → F → F → List V → List V → ℕ → List V → Result Bool RunFault → Type 0
 FillsOrFindsEmpty rest fed count Run read stream first last before held asked values (Ok true) = Fills rest fed count Run read stream first last before held asked (Ok values)
 FillsOrFindsEmpty rest fed count Run read stream first last before held asked values (Ok false) = FindsEmpty rest fed count stream first last before held asked
 FillsOrFindsEmpty rest fed count Run read stream first last before held asked values (Err fault) = Fills rest fed count Run read stream first last before held asked (Err fault)

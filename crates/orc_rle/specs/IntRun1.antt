@@ -15,8 +15,10 @@ run_len control = if nat_lt control 128 then control + 3 else 256 - control
 -- The two forms of a run: a control below 128, a signed byte and a base; or a control from 128 on, and as many literals
 -- as it is below 256.
 pub data IntRun1 (signed : Bool) : List ℕ → List ℤ → Type 0 where
-  repeated : {control delta base : ℕ} {bytes : List ℕ} → control < 128 → IsVarint bytes base → IntRun1 signed (control ∷ delta ∷ bytes) (ramp (integer signed base) (cast_signed w8 delta) (control + 3))
-  literals : {control : ℕ} {bytes numbers : List ℕ} → 128 ≤ control → control < 256 → AreVarints bytes numbers → length numbers ≡ 256 - control → IntRun1 signed (control ∷ bytes) (map (integer signed) numbers)
+  repeated : {control delta base : ℕ} {bytes : List ℕ} → control < 128 → IsVarint bytes base
+      → IntRun1 signed (control ∷ delta ∷ bytes) (ramp (integer signed base) (cast_signed w8 delta) (control + 3))
+  literals : {control : ℕ} {bytes numbers : List ℕ} → 128 ≤ control → control < 256 → AreVarints bytes numbers
+      → length numbers ≡ 256 - control → IntRun1 signed (control ∷ bytes) (map (integer signed) numbers)
 
 -- ---- reading a run, with its first fault
 

@@ -65,14 +65,19 @@ patched_numbers shape patches count body entries = patched shape 0 (unpacked (en
 -- ---- the four forms
 
 pub data IntRun2 (signed : Bool) : List ℕ → List ℤ → Type 0 where
-  short_repeat : (first : ℕ) (body : List ℕ) → first < 64 → length body ≡ first / 8 + 1 → IntRun2 signed (first ∷ body) (repeat_values signed first body)
-  direct : (first second : ℕ) (body : List ℕ) → 64 ≤ first → first < 128 → length body ≡ packed_len (width_of (code_of first)) (run_len first second) → IntRun2 signed (first ∷ second ∷ body) (map (integer signed) (unpacked (width_of (code_of first)) (run_len first second) body))
+  short_repeat : (first : ℕ) (body : List ℕ) → first < 64 → length body ≡ first / 8 + 1
+      → IntRun2 signed (first ∷ body) (repeat_values signed first body)
+  direct : (first second : ℕ) (body : List ℕ) → 64 ≤ first → first < 128
+      → length body ≡ packed_len (width_of (code_of first)) (run_len first second)
+      → IntRun2 signed (first ∷ second ∷ body) (map (integer signed) (unpacked (width_of (code_of first)) (run_len first second) body))
   patched_base : (first second third fourth : ℕ) (base body entries numbers : List ℕ) → 128 ≤ first → first < 192 →
       (0 < patch_count fourth → fourth / 32 + 1 + width_of (third % 32) ≤ 64) →
-      length base ≡ base_len third → length body ≡ packed_len (width_of (code_of first)) (run_len first second) → length entries ≡ packed_len (entry_width (shape_of (width_of (code_of first)) third fourth)) (patch_count fourth) →
+      length base ≡ base_len third → length body ≡ packed_len (width_of (code_of first)) (run_len first second)
+      → length entries ≡ packed_len (entry_width (shape_of (width_of (code_of first)) third fourth)) (patch_count fourth) →
       patched_numbers (shape_of (width_of (code_of first)) third fourth) (patch_count fourth) (run_len first second) body entries ≡ Some numbers →
       IntRun2 signed (first ∷ second ∷ third ∷ fourth ∷ (base ++ (body ++ entries))) (above_base (sign_magnitude (8 * base_len third) (number_of base)) numbers)
-  delta : (first second start step : ℕ) (start_bytes step_bytes body : List ℕ) → 192 ≤ first → first < 256 → IsVarint start_bytes start → IsVarint step_bytes step → length body ≡ magnitude_len (code_of first) (run_len first second) →
+  delta : (first second start step : ℕ) (start_bytes step_bytes body : List ℕ) → 192 ≤ first → first < 256 → IsVarint start_bytes start
+      → IsVarint step_bytes step → length body ≡ magnitude_len (code_of first) (run_len first second) →
       IntRun2 signed (first ∷ second ∷ (start_bytes ++ (step_bytes ++ body))) (delta_values (integer signed start) (zigzag step) (code_of first) (run_len first second) (magnitudes_in (code_of first) (run_len first second) body))
 
 -- ---- reading a run, with its first fault

@@ -155,10 +155,12 @@ pub fn take_packed<F: Feed>(
 ) -> Result<(), RunFault>
     requires width { IsWidth width }
     requires few { length into.old ≤ 512 }
-    ensures values { Reads F.rest F.fed F.fault_count stream (direct_body signed width (length into.old)) feed.old feed.new (placed into.new result) }
+    ensures values { Reads F.rest F.fed F.fault_count stream (direct_body signed width (length into.old)) feed.old feed.new
+        (placed into.new result) }
 
     // Of an unsigned stream the values have the bits of the numbers.
-    ensures bits { signed ≡ false → Reads F.rest F.fed F.fault_count stream (packed width (length into.old)) feed.old feed.new (placed (bits_in into.new) result) }
+    ensures bits { signed ≡ false → Reads F.rest F.fed F.fault_count stream (packed width (length into.old)) feed.old feed.new
+        (placed (bits_in into.new) result) }
 {
     if into.len() <= FEW {
         take_within::<F, 264>(feed, stream, width, signed, into)
@@ -179,8 +181,10 @@ fn take_within<F: Feed, const ROOM: usize>(
     requires few { length into.old ≤ 512 }
     requires room { packed_len width (length into.old) + 8 ≤ ROOM }
     requires small { ROOM ≤ 4104 }
-    ensures values { Reads F.rest F.fed F.fault_count stream (direct_body signed width (length into.old)) feed.old feed.new (placed into.new result) }
-    ensures bits { signed ≡ false → Reads F.rest F.fed F.fault_count stream (packed width (length into.old)) feed.old feed.new (placed (bits_in into.new) result) }
+    ensures values { Reads F.rest F.fed F.fault_count stream (direct_body signed width (length into.old)) feed.old feed.new
+        (placed into.new result) }
+    ensures bits { signed ≡ false → Reads F.rest F.fed F.fault_count stream (packed width (length into.old)) feed.old feed.new
+        (placed (bits_in into.new) result) }
 {
     let mut buffer = [0; ROOM];
     let len = (width as usize * into.len()).div_ceil(8);

@@ -53,7 +53,8 @@ fn read_after<F: Feed>(
     requires base_most { base_len ≤ 8 }
     requires few { patches < 32 }
     requires most { length into.old ≤ 512 }
-    ensures { Reads F.rest F.fed F.fault_count stream (patched_after shape base_len patches (length into.old)) feed.old feed.new (placed into.new result) }
+    ensures { Reads F.rest F.fed F.fault_count stream (patched_after shape base_len patches (length into.old)) feed.old feed.new
+        (placed into.new result) }
 {
     if patches > 0 && shape.gaps + shape.patches > 64 {
         return Err(RunFault::PatchTooWide);

@@ -92,7 +92,8 @@ fn read_repeat<F: Feed>(
     into: &mut [i64],
 ) -> Result<(), RunFault>
     requires { bytes ≤ 8 }
-    ensures { Reads F.rest F.fed F.fault_count stream (repeat_body signed bytes (length into.old)) feed.old feed.new (placed into.new result) }
+    ensures { Reads F.rest F.fed F.fault_count stream (repeat_body signed bytes (length into.old)) feed.old feed.new
+        (placed into.new result) }
 {
     let mut buffer = [0; 8];
     let (number, _) = buffer.split_at_mut(bytes as usize);
@@ -111,7 +112,8 @@ fn read_delta<F: Feed>(
     requires code { code < 32 }
     requires some { 0 < length into.old }
     requires most { length into.old ≤ 512 }
-    ensures { Reads F.rest F.fed F.fault_count stream (delta_body signed code (length into.old)) feed.old feed.new (placed into.new result) }
+    ensures { Reads F.rest F.fed F.fault_count stream (delta_body signed code (length into.old)) feed.old feed.new
+        (placed into.new result) }
 {
     let mut numbers = [0; 2];
     take_varints(feed, stream, &mut numbers)?;

@@ -25,13 +25,15 @@ pub length-texts_from : (from : ℕ) (ends bytes : List ℕ) → length (texts_f
 length-texts_from from [] bytes = refl
 length-texts_from from (end ∷ ends) bytes = omega (arith, length-texts_from end ends bytes)
 
-pub slices-append : (at : ℕ) (lens more bytes : List ℕ) → slices at (lens ++ more) bytes ≡ slices at lens bytes ++ slices (at + sum lens) more bytes
+pub slices-append : (at : ℕ) (lens more bytes : List ℕ)
+    → slices at (lens ++ more) bytes ≡ slices at lens bytes ++ slices (at + sum lens) more bytes
 slices-append at [] more bytes = let e : at + 0 ≡ at = omega arith in ap (λ (n : ℕ). slices n more bytes) (sym e)
 slices-append at (len ∷ lens) more bytes =
     let e : at + len + sum lens ≡ at + sum (len ∷ lens) = omega (arith, sum-cons len lens) in
     ap (λ (l : List (List ℕ)). slice_range bytes at (at + len) ∷ l) (slices-append (at + len) lens more bytes ∙ ap (λ (n : ℕ). slices (at + len) lens bytes ++ slices n more bytes) e)
 
-pub texts_from-append : (from : ℕ) (ends more bytes : List ℕ) → texts_from from (ends ++ more) bytes ≡ texts_from from ends bytes ++ texts_from (last_end from ends) more bytes
+pub texts_from-append : (from : ℕ) (ends more bytes : List ℕ)
+    → texts_from from (ends ++ more) bytes ≡ texts_from from ends bytes ++ texts_from (last_end from ends) more bytes
 texts_from-append from [] more bytes = refl
 texts_from-append from (end ∷ ends) more bytes = ap (λ (l : List (List ℕ)). slice_range bytes from end ∷ l) (texts_from-append end ends more bytes)
 
@@ -40,18 +42,21 @@ first_le-limit from [] limit are = are
 first_le-limit from (end ∷ ends) limit are = let h : end ≤ limit = first_le-limit end ends limit are.1 in let k : from ≤ end = are.0 in omega arith
 
 -- bytes behind those that the lengths need don't count
-slice_range-front : (front back : List ℕ) (from to : ℕ) → from ≤ to → to ≤ length front → slice_range (front ++ back) from to ≡ slice_range front from to
+slice_range-front : (front back : List ℕ) (from to : ℕ) → from ≤ to → to ≤ length front
+    → slice_range (front ++ back) from to ≡ slice_range front from to
 slice_range-front front back from to h k =
     ap (take (to - from)) (drop-append-le from front back (omega arith))
     ∙ take-append-le (to - from) (drop from front) back (omega (arith, length-drop from front))
 
-pub slices-front : (at : ℕ) (lens front back : List ℕ) → at + sum lens ≤ length front → slices at lens (front ++ back) ≡ slices at lens front
+pub slices-front : (at : ℕ) (lens front back : List ℕ) → at + sum lens ≤ length front
+    → slices at lens (front ++ back) ≡ slices at lens front
 slices-front at [] front back h = refl
 slices-front at (len ∷ lens) front back h =
     ap (λ (l : List ℕ). l ∷ slices (at + len) lens (front ++ back)) (slice_range-front front back at (at + len) (omega arith) (omega (arith, sum-cons len lens)))
     ∙ ap (λ (l : List (List ℕ)). slice_range front at (at + len) ∷ l) (slices-front (at + len) lens front back (omega (arith, sum-cons len lens)))
 
-pub texts_from-front : (from : ℕ) (ends front back : List ℕ) → AreEnds from ends (length front) → texts_from from ends (front ++ back) ≡ texts_from from ends front
+pub texts_from-front : (from : ℕ) (ends front back : List ℕ) → AreEnds from ends (length front)
+    → texts_from from ends (front ++ back) ≡ texts_from from ends front
 texts_from-front from [] front back are = refl
 texts_from-front from (end ∷ ends) front back are =
     ap (λ (l : List ℕ). l ∷ texts_from end ends (front ++ back)) (slice_range-front front back from end are.0 (first_le-limit end ends (length front) are.1))
@@ -73,7 +78,8 @@ slices-behind at (len ∷ lens) front back =
     ∙ ap (λ (l : List (List ℕ)). slice_range back at (at + len) ∷ l) (slices-behind (at + len) lens front back)
 
 -- Two batches of texts are the batch of the joined lists.
-pub slices-joined : (lens more front back : List ℕ) → length front ≡ sum lens → slices 0 (lens ++ more) (front ++ back) ≡ slices 0 lens front ++ slices 0 more back
+pub slices-joined : (lens more front back : List ℕ) → length front ≡ sum lens
+    → slices 0 (lens ++ more) (front ++ back) ≡ slices 0 lens front ++ slices 0 more back
 slices-joined lens more front back h =
     let e : 0 + sum lens ≡ length front + 0 = omega arith in
     slices-append 0 lens more (front ++ back)

@@ -36,20 +36,23 @@ length-woven (false ∷ present) values = omega (arith, length-woven present val
 length-woven {A} (true ∷ present) [] = let none : List A = [] in omega (arith, length-woven present none)
 length-woven (true ∷ present) (x ∷ values) = omega (arith, length-woven present values)
 
-pub length-aligned : {A : Type 0} (present : List Bool) (entries : List A) → length present ≡ length entries → length (aligned present entries) ≡ length present
+pub length-aligned : {A : Type 0} (present : List Bool) (entries : List A) → length present ≡ length entries
+    → length (aligned present entries) ≡ length present
 length-aligned [] entries h = refl
 length-aligned (p ∷ present) [] h = absurd (omega arith)
 length-aligned (p ∷ present) (x ∷ entries) h = omega (arith, length-aligned present entries (omega arith))
 
 -- where each row has a value, the dense list and the list of the rows are one
-pub woven-all : {A : Type 0} (present : List Bool) (values : List A) → length present ≡ length values → present_count present ≡ length present → woven present values ≡ map (λ x. Some x) values
+pub woven-all : {A : Type 0} (present : List Bool) (values : List A) → length present ≡ length values
+    → present_count present ≡ length present → woven present values ≡ map (λ x. Some x) values
 woven-all [] [] h all = refl
 woven-all [] (x ∷ values) h all = absurd (omega arith)
 woven-all (p ∷ present) [] h all = absurd (omega arith)
 woven-all (false ∷ present) (x ∷ values) h all = absurd (omega (arith, present_count-le present))
 woven-all {A} (true ∷ present) (x ∷ values) h all = ap (λ (l : List (Option A)). Some x ∷ l) (woven-all present values (omega arith) (omega arith))
 
-pub aligned-all : {A : Type 0} (present : List Bool) (values : List A) → length present ≡ length values → present_count present ≡ length present → aligned present values ≡ map (λ x. Some x) values
+pub aligned-all : {A : Type 0} (present : List Bool) (values : List A) → length present ≡ length values
+    → present_count present ≡ length present → aligned present values ≡ map (λ x. Some x) values
 aligned-all [] [] h all = refl
 aligned-all [] (x ∷ values) h all = absurd (omega arith)
 aligned-all (p ∷ present) [] h all = absurd (omega arith)

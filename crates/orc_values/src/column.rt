@@ -14,7 +14,7 @@ use std::marker::Model;
 ///
 /// They stand in one typed list, beside flags that say which rows have a value. Contracts see it as the list
 /// of the rows' values.
-#[derive(Debug, Drop)]
+#[derive(Drop)]
 pub struct Column {
     present: Vec<bool>,
     values: ColumnValues,

@@ -8,7 +8,7 @@ use crate::texts::Texts;
 /// The values of a column, as one list of their type with an entry for each row.
 ///
 /// The entry of a null row is any value of the type.
-#[derive(Debug, Drop)]
+#[derive(Drop)]
 pub enum ColumnValues {
     /// Of kind BOOLEAN.
     Bools(Vec<bool>),

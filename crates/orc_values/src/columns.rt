@@ -6,7 +6,7 @@ use crate::column::Column;
 use std::marker::Model;
 
 /// Columns, in order. Contracts see it as the list of them.
-#[derive(Debug, Drop)]
+#[derive(Drop)]
 pub struct Columns {
     items: Vec<Column>,
 }

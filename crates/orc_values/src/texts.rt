@@ -11,7 +11,7 @@ use std::marker::Model;
 ///
 /// A text is the bytes between the end of the one before it and its own end. Contracts see it as the list of
 /// the texts.
-#[derive(Debug, Drop)]
+#[derive(Drop)]
 pub struct Texts {
     bytes: Vec<u8>,
     ends: Vec<usize>,

@@ -10,7 +10,7 @@ use std::alloc::Global;
 ///
 /// A column has millions of values, so none of them is one of these: a literal, a row of a result and the key
 /// of a group are.
-#[derive(Debug, Drop)]
+#[derive(Drop)]
 pub enum Value {
     /// No value stands in the row.
     Null,
@@ -23,7 +23,7 @@ pub enum Value {
 }
 
 /// A value of a row, where its text is borrowed from the column.
-#[derive(Clone, Copy, Debug, PartialEq, Eq)]
+#[derive(Clone, Copy, PartialEq, Eq)]
 pub enum ValueRef<'a> {
     /// No value stands in the row.
     Null,
