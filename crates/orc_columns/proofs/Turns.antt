@@ -1,6 +1,7 @@
 -- Takes of streams in turn.
-use Rattle.std.proofs.Common.{ℕ, List, [], ◌∷◌, ◌++◌, Option, Some, None, refl, sym, ◌∙◌, ap, subst, append_assoc, append-nil}
-use Rattle.outside.specs.Feed.{Taken}
+use Rattle.std.proofs.Common.{◌≡◌, ℕ, List, [], ◌∷◌, ◌++◌, Option, Some, None, refl, sym, ◌∙◌, ap, subst, append_assoc, append-nil}
+use Rattle.outside.specs.Feed.{Taken, AllOf}
+use Rattle.orc_columns.specs.Laws.{NeverBack}
 use Rattle.orc_columns.specs.Optional.{AllIn}
 use Rattle.orc_columns.specs.Turns.{InTurn, alone}
 use Rattle.orc_columns.proofs.Following.{in_joined}
@@ -39,3 +40,21 @@ alone-joined stream front back a b = InTurn-alone stream (front ++ back) (in_joi
 pub alone-twice : (stream : Option ℕ) (takes : List Taken) → InTurn (stream ∷ alone stream) takes → InTurn (alone stream) takes
 alone-twice stream takes (front, back, parts, all, more) =
     subst (λ (ts : List Taken). InTurn (alone stream) ts) (sym parts) (InTurn-alone stream (front ++ back) (in_joined stream front back all (alone-all stream back more)))
+
+all_behind : (stream : ℕ) (front back : List Taken) (take : Taken) → AllOf stream (front ++ take ∷ back) → AllOf stream back
+all_behind stream [] back take all = all.1
+all_behind stream (x ∷ front) back take all = all_behind stream front back take all.1
+
+-- takes of one stream and then of another, cut at a take of the other
+behind_other : (one other : ℕ) (ones others front back : List Taken) (take : Taken) → (one ≡ other → ⊥) → AllOf one ones → AllOf other others → take.stream ≡ other
+    → front ++ take ∷ back ≡ ones ++ others → AllOf other back
+behind_other one other [] others front back take differ all rest is parts = all_behind other front back take (subst (λ (ts : List Taken). AllOf other ts) (sym parts) rest)
+behind_other one other (x ∷ ones) others [] back take differ all rest is parts =
+    let same : take ≡ x = cc in
+    absurd (differ (sym all.0 ∙ ap (λ (t : Taken). t.stream) (sym same) ∙ is))
+behind_other one other (x ∷ ones) others (y ∷ front) back take differ all rest is parts =
+    let tail : front ++ take ∷ back ≡ ones ++ others = cc in
+    behind_other one other ones others front back take differ all.1 rest is tail
+
+pub never_back : NeverBack
+never_back one other front back take differ (ones, others, parts, all, more) is = behind_other one other ones others front back take differ all (alone-all (Some other) others more) is parts

@@ -1,6 +1,6 @@
 -- The laws of columns, which this crate's law functions carry. Source: this project's own.
 use Rattle.std.specs.Prelude.{◌≡◌, ℕ, ◌≤◌, ◌⊎◌, List, [], ◌∷◌, ◌++◌, length, Option, Some}
-use Rattle.outside.specs.Feed.{Taken}
+use Rattle.outside.specs.Feed.{Taken, AllOf}
 use Rattle.orc_values.specs.declared.value.Value.{Value}
 use Rattle.orc_columns.specs.declared.fault.ColumnFault.{ColumnFault}
 use Rattle.orc_columns.specs.declared.plan.ColumnPlan.{ColumnPlan}
@@ -52,6 +52,11 @@ JoinInTurn = (streams others : List (Option ℕ)) (front back : List Taken) → 
 -- also where there is none of the streams behind
 abbrev pub StopInTurn : Type 0
 StopInTurn = (streams others : List (Option ℕ)) (takes : List Taken) → InTurn streams takes → InTurn (streams ++ others) takes
+
+-- of two streams in turn, once the second is taken from, the first isn't any more: no batch is read in two halves
+abbrev pub NeverBack : Type 0
+NeverBack = (one other : ℕ) (front back : List Taken) (take : Taken) → (one ≡ other → ⊥)
+    → InTurn (Some one ∷ Some other ∷ []) (front ++ take ∷ back) → take.stream ≡ other → AllOf other back
 
 module _ {F : Type 0} (rest : F → ℕ → Option (List ℕ)) (fed : F → List Taken → F → Type 0) where
   -- takes of one column's streams leave the streams of another as they were

@@ -1,5 +1,6 @@
 //! Laws of columns, as contracts of functions that do nothing.
-ghost use Rattle.orc_columns.specs.Laws.{NeverBoth, HasValuesOrAFault, IsOneList, IsOneFault, GivesTheColumn, JoinInTurn, StopInTurn, LeaveAColumn, LeaveAStream};
+ghost use Rattle.orc_columns.specs.Laws.{NeverBoth, HasValuesOrAFault, IsOneList, IsOneFault, GivesTheColumn};
+ghost use Rattle.orc_columns.specs.Laws.{JoinInTurn, StopInTurn, NeverBack, LeaveAColumn, LeaveAStream};
 
 use outside::Feed;
 
@@ -31,8 +32,10 @@ pub fn takes_leave_other_streams<F: Feed>()
     ensures stream { LeaveAStream F.rest F.fed }
 {}
 
-/// Takes of some streams in turn, and then of others, are in turn of all of them, also where the walk stops before the others.
+/// Takes of some streams in turn, and then of others, are in turn of all of them, also where the walk stops before the
+/// others; and of two streams the first isn't taken from again, once the second was.
 pub fn takes_in_turn_join()
     ensures join { JoinInTurn }
     ensures stop { StopInTurn }
+    ensures never_back { NeverBack }
 {}
