@@ -1,3 +1,6 @@
 pub mod Positions
 pub mod TestSteps
 pub mod ShapeSteps
+pub mod BoundSteps
+pub mod PlanSteps
+pub mod OneReading

@@ -19,19 +19,25 @@ use Rattle.fragment_plan.specs.Tests.{tests}
 use Rattle.fragment_plan.specs.Sources.{sources, after, new_name}
 use Rattle.fragment_plan.specs.Shapes.{is_whole}
 
+-- behind "rows": COLUMNS
+abbrev pub rows_fold : Reads (FoldKind × List (List ℕ))
+rows_fold = do
+  list ← column_list
+  gives (Rows list.0, list.1)
+
+-- behind "sum" and "group": COLUMN
+abbrev pub column_fold : (ℕ → FoldKind) → Reads (FoldKind × List (List ℕ))
+column_fold folded = do
+  at ← column []
+  gives (folded at.0, at.1)
+
 -- what a scan makes of its rows, from the word that names it on, with the columns that are named then
 abbrev pub fold_by : List ℕ → Reads (FoldKind × List (List ℕ))
 fold_by found =
-    if bytes_eq found (codes "rows") then (do
-      list ← column_list
-      gives (Rows list.0, list.1))
+    if bytes_eq found (codes "rows") then rows_fold
     else if bytes_eq found (codes "count") then gives (Count, [])
-    else if bytes_eq found (codes "sum") then (do
-      at ← column []
-      gives (Sum at.0, at.1))
-    else if bytes_eq found (codes "group") then (do
-      at ← column []
-      gives (Group at.0, at.1))
+    else if bytes_eq found (codes "sum") then column_fold (λ place. Sum place)
+    else if bytes_eq found (codes "group") then column_fold (λ place. Group place)
     else fails kind.BadWord
 
 -- fold "from" FILE tests

@@ -4,3 +4,5 @@ pub mod Sources
 pub mod Shapes
 pub mod Fragments
 pub mod Plan
+pub mod Bounds
+pub mod Laws
