@@ -26,7 +26,7 @@ use Rattle.pool_model.proofs.PartsAreOwners.{owners-part, owned_once}
 
 -- what a held buffer is
 
-live_if_held : (mode : BufferMode) (holders : List ℕ) → HoldersFit mode holders → holders ≢ [] → mode ≡ Live
+pub live_if_held : (mode : BufferMode) (holders : List ℕ) → HoldersFit mode holders → holders ≢ [] → mode ≡ Live
 live_if_held Live holders fit held = refl
 live_if_held New holders fit held = absurd (held fit)
 live_if_held Moving holders fit held = absurd (held fit)
@@ -164,7 +164,7 @@ unheld_new w p header P l new needs =
     unheld_since w p header P l (λ b g n. idle_new w (length p.grants) b g (new b n)) needs
 
 -- a released header has no held buffer
-apart_released : (p : PlainPool) (header other : ℕ) (b : Buffer) → buffer_at p header ≡ Some b → buffer_at p other ≡ None → header ≢ other
+pub apart_released : (p : PlainPool) (header other : ℕ) (b : Buffer) → buffer_at p header ≡ Some b → buffer_at p other ≡ None → header ≢ other
 apart_released p header other b e none same =
     let P : ℕ → Type 0 = λ h. buffer_at p h ≡ None in
     let gone : buffer_at p header ≡ None = subst P (sym same) none in

@@ -9,3 +9,4 @@ pub mod ProgramSteps
 pub mod PartsAreOwners
 pub mod HeldBuffers
 pub mod Runs
+mod Others

@@ -10,7 +10,7 @@ use Rattle.pool_model.specs.declared.setting.Setting.{Setting}
 use Rattle.pool_model.specs.declared.step.Step.{Step}
 use Rattle.pool_model.specs.declared.step.StepFault.{StepFault}
 use Rattle.pool_model.specs.declared.step.StepFault.TheVariants.{Refused, NoMemory}
-use Rattle.pool_model.specs.Outcome.{Outcome}
+use Rattle.pool_model.specs.Outcome.{Outcome, TakesMemory}
 use Rattle.pool_model.specs.Pool.{buffer_at, with_buffer, with_grant}
 use Rattle.pool_model.specs.Step.{Needs, after, with_change, with_settle, with_settled, with_cancel, with_cancelled}
 use Rattle.pool_model.specs.Buffer.{live_at}
@@ -48,13 +48,13 @@ change_put p mid new header b changed change e left put is =
     put_over p mid new header changed left put ∙ ap (with_buffers p) (ap (set p.buffers header) now)
 
 -- the buffer that was there, changed or not, put back
-pub change_made : (p mid new : PlainPool) (header : ℕ) (b changed : Buffer) (Can : Buffer → Type 0) (change : Buffer → Buffer) (r : Result (Unit {0}) StepFault) → Some b ≡ buffer_at p header → mid ≡ with_buffer header None p → new ≡ with_buffer header (Some changed) mid → Outcome r (Can b) changed (change b) b → Outcome r (IsSomeAnd (buffer_at p header) Can) new (with_change header change p) p
-change_made p mid new header b changed Can change (Ok u) e left put o =
+pub change_made : (memory : Type 0) (p mid new : PlainPool) (header : ℕ) (b changed : Buffer) (Can : Buffer → Type 0) (change : Buffer → Buffer) (r : Result (Unit {0}) StepFault) → Some b ≡ buffer_at p header → mid ≡ with_buffer header None p → new ≡ with_buffer header (Some changed) mid → Outcome memory r (Can b) changed (change b) b → Outcome memory r (IsSomeAnd (buffer_at p header) Can) new (with_change header change p) p
+change_made memory p mid new header b changed Can change (Ok u) e left put o =
     (some_and Can (buffer_at p header) b (sym e) o.0, change_put p mid new header b changed change e left put o.1)
-change_made p mid new header b changed Can change (Err Refused) e left put o =
+change_made memory p mid new header b changed Can change (Err Refused) e left put o =
     refused_back p mid new header b Can e left (put ∙ ap (λ x. with_buffer header (Some x) mid) o.1) o.0
-change_made p mid new header b changed Can change (Err NoMemory) e left put o =
-    put_back p mid new header b e left (put ∙ ap (λ x. with_buffer header (Some x) mid) o)
+change_made memory p mid new header b changed Can change (Err NoMemory) e left put o =
+    (o.0, some_and Can (buffer_at p header) b (sym e) o.1, put_back p mid new header b e left (put ∙ ap (λ x. with_buffer header (Some x) mid) o.2))
 
 -- it was settled at its target, and its old block granted
 pub settle_made : (p mid put new : PlainPool) (seat header : ℕ) (b settled : Buffer) (t : Target) → Some b ≡ buffer_at p header → mid ≡ with_buffer header None p → b.target ≡ Some t → settled ≡ live_at t.block t.cells b → put ≡ with_buffer header (Some settled) mid → new ≡ with_grant seat b.block put → new ≡ with_settle seat header (buffer_at p header) p
@@ -76,27 +76,32 @@ cancel_made p mid put new seat header b live given t e left at_target is same pu
     ∙ ap (with_grant seat t.block) (put_over p mid put header live left putting ∙ ap (λ x. with_buffer header (Some x) p) is)))
 
 -- a step that was made or refused, and the pool that it left
-pub outcome_lawful : (w : Setting) (s : Step) (p new : PlainPool) (r : Result (Unit {0}) StepFault) → IsLawful w p → Outcome r (Needs w s p) new (after s p) p → IsLawful w new
+pub outcome_lawful : (w : Setting) (s : Step) (p new : PlainPool) (r : Result (Unit {0}) StepFault) → IsLawful w p → Outcome (TakesMemory s) r (Needs w s p) new (after s p) p → IsLawful w new
 outcome_lawful w s p new (Ok u) l o = let P : PlainPool → Type 0 = IsLawful w in subst P (sym o.1) (step_keeps w s p l o.0)
 outcome_lawful w s p new (Err Refused) l o = let P : PlainPool → Type 0 = IsLawful w in subst P (sym o.1) l
-outcome_lawful w s p new (Err NoMemory) l o = let P : PlainPool → Type 0 = IsLawful w in subst P (sym o) l
+outcome_lawful w s p new (Err NoMemory) l o = let P : PlainPool → Type 0 = IsLawful w in subst P (sym o.2) l
 
 -- the parts of an outcome
 
-pub outcome_needs : (r : Result (Unit {0}) StepFault) (needs : Type 0) (new changed old : PlainPool) → Outcome r needs new changed old → OnOk r needs
-outcome_needs (Ok u) needs new changed old o = o.0
-outcome_needs (Err e) needs new changed old o = tt
+pub outcome_needs : (memory : Type 0) (r : Result (Unit {0}) StepFault) (needs : Type 0) (new changed old : PlainPool) → Outcome memory r needs new changed old → OnOk r needs
+outcome_needs memory (Ok u) needs new changed old o = o.0
+outcome_needs memory (Err e) needs new changed old o = tt
 
-pub outcome_made : (r : Result (Unit {0}) StepFault) (needs : Type 0) (new changed old : PlainPool) → Outcome r needs new changed old → OnOk r (new ≡ changed)
-outcome_made (Ok u) needs new changed old o = o.1
-outcome_made (Err e) needs new changed old o = tt
+pub outcome_made : (memory : Type 0) (r : Result (Unit {0}) StepFault) (needs : Type 0) (new changed old : PlainPool) → Outcome memory r needs new changed old → OnOk r (new ≡ changed)
+outcome_made memory (Ok u) needs new changed old o = o.1
+outcome_made memory (Err e) needs new changed old o = tt
 
-pub outcome_refused : (r : Result (Unit {0}) StepFault) (needs : Type 0) (new changed old : PlainPool) → Outcome r needs new changed old → r ≡ Err Refused → needs → ⊥
-outcome_refused (Ok u) needs new changed old o e n = cc
-outcome_refused (Err Refused) needs new changed old o e n = o.0 n
-outcome_refused (Err NoMemory) needs new changed old o e n = cc
+pub outcome_refused : (memory : Type 0) (r : Result (Unit {0}) StepFault) (needs : Type 0) (new changed old : PlainPool) → Outcome memory r needs new changed old → r ≡ Err Refused → needs → ⊥
+outcome_refused memory (Ok u) needs new changed old o e n = cc
+outcome_refused memory (Err Refused) needs new changed old o e n = o.0 n
+outcome_refused memory (Err NoMemory) needs new changed old o e n = cc
 
-pub outcome_left : (r : Result (Unit {0}) StepFault) (needs : Type 0) (new changed old : PlainPool) → Outcome r needs new changed old → OnErr r (new ≡ old)
-outcome_left (Ok u) needs new changed old o = tt
-outcome_left (Err Refused) needs new changed old o = o.1
-outcome_left (Err NoMemory) needs new changed old o = o
+pub outcome_left : (memory : Type 0) (r : Result (Unit {0}) StepFault) (needs : Type 0) (new changed old : PlainPool) → Outcome memory r needs new changed old → OnErr r (new ≡ old)
+outcome_left memory (Ok u) needs new changed old o = tt
+outcome_left memory (Err Refused) needs new changed old o = o.1
+outcome_left memory (Err NoMemory) needs new changed old o = o.2
+
+pub outcome_memory : (memory : Type 0) (r : Result (Unit {0}) StepFault) (needs : Type 0) (new changed old : PlainPool) → Outcome memory r needs new changed old → r ≡ Err NoMemory → memory × needs
+outcome_memory memory (Ok u) needs new changed old o e = cc
+outcome_memory memory (Err Refused) needs new changed old o e = cc
+outcome_memory memory (Err NoMemory) needs new changed old o e = (o.0, o.1)

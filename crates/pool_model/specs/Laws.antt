@@ -9,8 +9,9 @@ use Rattle.pool_model.specs.declared.step.Step.TheVariants.{Grant, Ungrant, Open
 use Rattle.pool_model.specs.Block.{Within}
 use Rattle.pool_model.specs.Lawful.{IsLawful}
 use Rattle.pool_model.specs.Parts.{Has, buffer_block, buffer_target, IsOwnedOnce, OwnersCountParts}
-use Rattle.pool_model.specs.Pool.{buffer_at, empty_pool}
-use Rattle.pool_model.specs.Step.{IsRun, after}
+use Rattle.pool_model.specs.Pool.{buffer_at, grant_at, empty_pool}
+use Rattle.pool_model.specs.declared.pool.GrantedBlock.{GrantedBlock}
+use Rattle.pool_model.specs.Step.{IsRun, Needs, after}
 
 -- the header's buffer has a holder
 abbrev pub IsHeld : PlainPool → ℕ → Type 0
@@ -58,6 +59,32 @@ IsLawfulOnTheWay w (s ∷ ss) p = IsLawful w p × SparesHeld s p × KeepsHeld s 
 abbrev pub EveryRunIsLawful : Type 0
 EveryRunIsLawful =
     (w : Setting) (headers places : ℕ) (steps : List Step) → IsRun w steps (empty_pool headers places) → IsLawfulOnTheWay w steps (empty_pool headers places)
+
+-- the seat that makes a step
+abbrev pub maker_of : Step → ℕ
+maker_of (Grant seat b) = seat
+maker_of (Ungrant seat b) = seat
+maker_of (Open seat header b cells) = seat
+maker_of (Name seat header key) = seat
+maker_of (Fill seat header value) = seat
+maker_of (Publish seat header) = seat
+maker_of (Pin seat header) = seat
+maker_of (Unpin seat header) = seat
+maker_of (BeginEvict seat header) = seat
+maker_of (Release seat header) = seat
+maker_of (BeginMove seat header target cells) = seat
+maker_of (Copy seat header) = seat
+maker_of (Settle seat header) = seat
+maker_of (Cancel seat header) = seat
+
+-- no step changes a buffer that another seat has for itself, or takes another seat's grant away
+pub record SparesOthers (s : Step) (p : PlainPool) : Type 0 where
+  pub claims : (header seat : ℕ) (b : Buffer) → buffer_at p header ≡ Some b → b.claimant ≡ Some seat → seat ≢ maker_of s → buffer_at (after s p) header ≡ Some b
+  pub grants : (place : ℕ) (g : GrantedBlock) → grant_at p place ≡ Some g → g.owner ≢ maker_of s → grant_at (after s p) place ≡ Some g
+
+-- whatever the lawful pool and the step
+abbrev pub OthersAreSpared : Type 0
+OthersAreSpared = (w : Setting) (s : Step) (p : PlainPool) → IsLawful w p → Needs w s p → SparesOthers s p
 
 -- in any pool, lawful or not
 abbrev pub OwnersAreParts : Type 0

@@ -7,7 +7,7 @@ impl PlainPool {
     ghost use Rattle.std.specs.Prelude.{◌≡◌, ◌≤◌, OnOk, OnErr, Ok, Err};
     ghost use Rattle.pool_model.specs.declared.step.Step.TheVariants.{Grant, Ungrant, Open, Name, Fill, Publish, Pin, Unpin, BeginEvict, Release, BeginMove, Copy, Settle, Cancel};
     ghost use Rattle.pool_model.specs.Lawful.{IsLawful};
-    ghost use Rattle.pool_model.specs.Outcome.{Makes};
+    ghost use Rattle.pool_model.specs.Outcome.{Makes, TakesMemory};
     ghost use Rattle.pool_model.specs.Step.{Needs, after};
 
     fn grant(&mut self, setting: &Setting, seat: u32, block: Block) -> Result<(), StepFault>
@@ -240,6 +240,7 @@ impl PlainPool {
         ensures needs { OnOk result (Needs setting.now step self.old) }
         ensures made { OnOk result (self.new ≡ after step self.old) }
         ensures refused { result ≡ Err StepFault.Refused → Needs setting.now step self.old → ⊥ }
+        ensures memory { result ≡ Err StepFault.NoMemory → TakesMemory step × Needs setting.now step self.old }
         ensures left { OnErr result (self.new ≡ self.old) }
         ensures stays_lawful { IsLawful setting.now self.new }
     {

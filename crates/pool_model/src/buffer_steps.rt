@@ -84,7 +84,7 @@ impl Buffer {
     /// Gives a new buffer of the seat's its key. Refuses, and changes nothing, where `CanName` isn't so.
     pub fn name(&mut self, setting: &Setting, seat: u32, key: BufferKey) -> Result<(), StepFault>
         requires { self.old.block.order ≤ 12 }
-        ensures { Outcome result (CanName setting.now seat key self.old) self.new (named key self.old) self.old }
+        ensures { Outcome ⊥ result (CanName setting.now seat key self.old) self.new (named key self.old) self.old }
     {
         let fits = u64::from(key.len) <= self.block.bytes(setting.min_block);
         let ranges = setting.has_range(key);
@@ -97,7 +97,7 @@ impl Buffer {
 
     /// Fills the next cell of a new buffer of the seat's. Refuses, and changes nothing, where `CanFill` isn't so.
     pub fn fill(&mut self, setting: &Setting, seat: u32, value: u64) -> Result<(), StepFault>
-        ensures { Outcome result (CanFill setting.now seat value self.old) self.new (filled value self.old) self.old }
+        ensures { Outcome ⊥ result (CanFill setting.now seat value self.old) self.new (filled value self.old) self.old }
     {
         if !self.is_claimed(BufferMode::New, seat) || !self.has_next() {
             return Err(StepFault::Refused);
@@ -117,7 +117,7 @@ impl Buffer {
     /// and where memory is wanting, nothing changes.
     pub fn publish(&mut self, seat: u32) -> Result<(), StepFault>
         requires { self.old.mode ≡ New → self.old.holders ≡ [] }
-        ensures { Outcome result (CanPublish seat self.old) self.new (published seat self.old) self.old }
+        ensures { Outcome (Unit {0}) result (CanPublish seat self.old) self.new (published seat self.old) self.old }
     {
         if !self.is_claimed(BufferMode::New, seat) || !self.is_done() {
             return Err(StepFault::Refused);
@@ -130,7 +130,7 @@ impl Buffer {
 
     /// Adds a holder.
     fn hold(&mut self, seat: u32) -> Result<(), StepFault>
-        ensures { Outcome result (Unit {0}) self.new (pinned seat self.old) self.old }
+        ensures { Outcome (Unit {0}) result (Unit {0}) self.new (pinned seat self.old) self.old }
     {
         match self.holders.push(seat) {
             Ok(()) => Ok(()),
@@ -140,7 +140,7 @@ impl Buffer {
 
     /// Makes the seat a holder. Refuses where `CanPin` isn't so; then, and where memory is wanting, nothing changes.
     pub fn pin(&mut self, seat: u32) -> Result<(), StepFault>
-        ensures { Outcome result (CanPin seat self.old) self.new (pinned seat self.old) self.old }
+        ensures { Outcome (Unit {0}) result (CanPin seat self.old) self.new (pinned seat self.old) self.old }
     {
         if self.mode != BufferMode::Live || self.is_held_by(seat) {
             return Err(StepFault::Refused);
@@ -150,7 +150,7 @@ impl Buffer {
 
     /// Lets the seat's hold go. Refuses, and changes nothing, where the seat is no holder.
     pub fn unpin(&mut self, seat: u32) -> Result<(), StepFault>
-        ensures { Outcome result (CanUnpin seat self.old) self.new (unpinned seat self.old) self.old }
+        ensures { Outcome ⊥ result (CanUnpin seat self.old) self.new (unpinned seat self.old) self.old }
     {
         if !self.is_held_by(seat) {
             return Err(StepFault::Refused);
@@ -161,7 +161,7 @@ impl Buffer {
 
     /// Takes an idle buffer for the seat, to evict it. Refuses, and changes nothing, where it isn't idle.
     pub fn begin_evict(&mut self, seat: u32) -> Result<(), StepFault>
-        ensures { Outcome result (IsIdle self.old) self.new (evicting seat self.old) self.old }
+        ensures { Outcome ⊥ result (IsIdle self.old) self.new (evicting seat self.old) self.old }
     {
         if !self.is_idle() {
             return Err(StepFault::Refused);
@@ -190,7 +190,7 @@ impl Buffer {
 
     /// Copies the next cell to the target. Refuses, and changes nothing, where `CanCopy` isn't so.
     pub fn copy(&mut self, seat: u32) -> Result<(), StepFault>
-        ensures { Outcome result (CanCopy seat self.old) self.new (copied self.old) self.old }
+        ensures { Outcome ⊥ result (CanCopy seat self.old) self.new (copied self.old) self.old }
     {
         if !self.is_claimed(BufferMode::Moving, seat) || !self.has_next() {
             return Err(StepFault::Refused);

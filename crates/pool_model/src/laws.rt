@@ -2,7 +2,7 @@
 //!
 //! No function here does anything: each contract is a law.
 
-ghost use Rattle.pool_model.specs.Laws.{EveryRunIsLawful, LawfulIsDisjoint, OwnersAreParts};
+ghost use Rattle.pool_model.specs.Laws.{EveryRunIsLawful, OthersAreSpared, LawfulIsDisjoint, OwnersAreParts};
 
 /// Every list of steps that each meet their needs, from the pool with no buffer and no grant, leads through lawful
 /// pools alone. No step moves, evicts or grants a minimum block of a buffer that has a holder then, and each such
@@ -20,4 +20,9 @@ pub fn lawful_is_disjoint()
 /// grant has it, and at most 1 exactly where no two have it.
 pub fn owners_are_parts()
     ensures { OwnersAreParts }
+{}
+
+/// No step from a lawful pool changes a buffer that another seat has for itself, or takes another seat's grant away.
+pub fn others_are_spared()
+    ensures { OthersAreSpared }
 {}
