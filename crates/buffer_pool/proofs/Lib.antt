@@ -1,1 +1,5 @@
-pub mod Views
+pub mod First
+pub mod Bids
+pub mod Holds
+pub mod Contents
+pub mod ArenaBlocks

@@ -1,14 +1,13 @@
-//! The calls that are one atomic step each.
+//! The calls on blocks and seats, and a load. Each is one atomic step.
 
-ghost use Rattle.std.specs.Prelude.{◌≡◌, ◌≢◌, ℕ, ◌+◌, ◌%◌, ◌/◌, ◌^◌, ◌<◌, [], ◌∷◌, ◌++◌, length, Some, None, IfOk, IfErr, OnOk, MatchResult, bit_and, bit_or};
-ghost use Rattle.std.specs.Int.{w64, bit_not};
+ghost use Rattle.std.specs.Prelude.{◌≡◌, ◌≢◌, ℕ, ◌%◌, ◌/◌, ◌<◌, length, Some, IfOk, IfErr, OnOk};
 ghost use Rattle.buddy_arena.specs.Block.{IsClear};
-ghost use Rattle.pool_rule.specs.declared.view.Event.TheVariants.{Parted, Joined};
-ghost use Rattle.pool_rule.specs.Layout.{IsWord, index_of};
-ghost use Rattle.pool_rule.specs.Seats.{HasNothing, Told, granted_at, joined, parted, part_of};
-ghost use Rattle.pool_rule.specs.Words.{looked, took, gave, missed, mask_of};
-ghost use Rattle.buffer_pool.specs.Pools.{view, seat_id, sizes_of, block_of, block_at, IsSeatOf, IsSameSeat, IsBlockOf, IsGrantOf};
-ghost use Rattle.buffer_pool.specs.Calls.{Steps, Looks, KeepsAll, KeepsOthers, grant_step, ungrant_step, load_of, exchange_of, miss_of, mask_out_of};
+ghost use Rattle.pool_rule.specs.declared.geometry.WordName.TheVariants.{Arena};
+ghost use Rattle.pool_rule.specs.declared.word_step.WordStep.TheVariants.{Granted, Looked, Missed, Returned};
+ghost use Rattle.pool_rule.specs.Layout.{IsWord};
+ghost use Rattle.pool_rule.specs.Seats.{HasNothing, joined, part_of, parted};
+ghost use Rattle.pool_rule.specs.WordSteps.{IsMade};
+ghost use Rattle.buffer_pool.specs.Pools.{IsBlockOf, IsGrantOf, IsSameSeat, IsSeatOf, block_at, block_of, seat_id, sizes_of, view};
 
 use crate::{Grant, LostGrant, Pool, PoolSeat, WordName};
 use outside::World;
@@ -22,9 +21,7 @@ pub fn look<W: World>(pool: &Pool<W>, seat: &mut PoolSeat<W>, word: WordName) ->
     requires seat { IsSeatOf pool.now seat.old }
     requires word { IsWord (sizes_of pool.now) word }
     ensures seat { IsSameSeat pool.now seat.old seat.new }
-    ensures view { view seat.new ≡ looked (sizes_of pool.now) word result (view seat.old) }
-    ensures step { Steps (index_of (sizes_of pool.now) word) result result (load_of (index_of (sizes_of pool.now) word) result) (view seat.old) (view seat.new) }
-    ensures keeps { Looks word (view seat.old) (view seat.new) }
+    ensures made { IsMade W.files (sizes_of pool.now) (seat_id seat.old) (Looked word result) (view seat.old) (view seat.new) }
 {
     pool.words.look(&mut seat.seat, word)
 }
@@ -48,13 +45,9 @@ pub fn grant<W: World>(
     ensures seat { IsSameSeat pool.now seat.old seat.new }
     ensures block { IfOk result (λ g. block_of g ≡ block_at place order) }
     ensures token { IfOk result (λ g. IsGrantOf pool.now seat.new g) }
-    ensures fresh { OnOk result (granted_at (view seat.old) place ≡ None) }
-    ensures ok { OnOk result (view seat.new ≡ took (seat_id seat.old) (block_at place order) seen (view seat.old)) }
-    ensures ok_step { OnOk result (Steps (place / 64) seen (bit_or seen (mask_of (block_at place order))) (exchange_of (block_at place order) seen) (view seat.old) (view seat.new)) }
-    ensures ok_others { OnOk result (KeepsOthers place (grant_step (seat_id seat.old) (block_at place order)) (view seat.old) (view seat.new)) }
-    ensures err { IfErr result (λ e. (e.saw ≢ seen) × (view seat.new ≡ missed (place / 64) e.saw (view seat.old))) }
-    ensures err_step { IfErr result (λ e. Steps (place / 64) e.saw e.saw (miss_of (block_at place order) e.saw) (view seat.old) (view seat.new)) }
-    ensures err_all { IfErr result (λ e. KeepsAll (view seat.old) (view seat.new)) }
+    ensures ok { OnOk result (IsMade W.files (sizes_of pool.now) (seat_id seat.old) (Granted (block_at place order) seen) (view seat.old) (view seat.new)) }
+    ensures saw { IfErr result (λ e. e.saw ≢ seen) }
+    ensures err { IfErr result (λ e. IsMade W.files (sizes_of pool.now) (seat_id seat.old) (Missed (Arena (place / 64)) e.saw) (view seat.old) (view seat.new)) }
 {
     let block = Block { place, order };
     match pool.words.take_block(&mut seat.seat, block, seen) {
@@ -68,9 +61,7 @@ pub fn ungrant<W: World>(pool: &Pool<W>, seat: &mut PoolSeat<W>, grant: Grant)
     requires seat { IsSeatOf pool.now seat.old }
     requires token { IsGrantOf pool.now seat.old grant }
     ensures seat { IsSameSeat pool.now seat.old seat.new }
-    ensures gone { granted_at (view seat.new) (block_of grant).place ≡ None }
-    ensures step { (found : ℕ) × (found < 2 ^ 64) × (view seat.new ≡ gave (seat_id seat.old) (block_of grant) found (view seat.old)) × Steps ((block_of grant).place / 64) found (bit_and found (bit_not w64 (mask_of (block_of grant)))) (mask_out_of (block_of grant) found) (view seat.old) (view seat.new) }
-    ensures others { KeepsOthers (block_of grant).place (ungrant_step (seat_id seat.old) (block_of grant)) (view seat.old) (view seat.new) }
+    ensures made { (found : ℕ) × IsMade W.files (sizes_of pool.now) (seat_id seat.old) (Returned (block_of grant) found) (view seat.old) (view seat.new) }
 {
     let Grant { block } = grant;
     pool.words.give_block(&mut seat.seat, block);
@@ -86,11 +77,6 @@ pub fn split<W: World>(pool: &Pool<W>, seat: &mut PoolSeat<W>, numbers: u32) -> 
     ensures new { IsSeatOf pool.now result }
     ensures view { view seat.new ≡ parted numbers (view seat.old) }
     ensures part { view result ≡ part_of numbers (view seat.old) }
-    ensures numbers { (view seat.new).numbers ++ (view result).numbers ≡ (view seat.old).numbers }
-    ensures count { length (view result).numbers ≡ numbers }
-    ensures trail { (view seat.new).trail ≡ (view seat.old).trail ++ Parted numbers ∷ [] }
-    ensures keeps { KeepsAll (view seat.old) (view seat.new) }
-    ensures nothing { HasNothing (view result) × ((view result).trail ≡ []) }
 {
     let part = pool.words.split(&mut seat.seat, numbers);
     PoolSeat {
@@ -108,9 +94,6 @@ pub fn join<W: World>(pool: &Pool<W>, seat: &mut PoolSeat<W>, other: PoolSeat<W>
     requires nothing { HasNothing (view other) }
     ensures seat { IsSameSeat pool.now seat.old seat.new }
     ensures view { view seat.new ≡ joined (view seat.old) (view other) }
-    ensures numbers { (view seat.new).numbers ≡ (view seat.old).numbers ++ (view other).numbers }
-    ensures trail { (view seat.new).trail ≡ (view seat.old).trail ++ Joined ∷ [] }
-    ensures keeps { KeepsAll (view seat.old) (view seat.new) }
 {
     let PoolSeat {
         seat: spent,

@@ -1,6 +1,7 @@
 //! What holds of every pool, whoever makes its steps. No program calls these functions: their contracts are the laws.
 
-ghost use Rattle.pool_model.specs.Laws.{EveryRunIsLawful, LawfulIsDisjoint, OwnersAreParts};
+ghost use Rattle.pool_model.specs.Laws.{EveryRunIsLawful, LawfulIsDisjoint, OthersAreSpared, OwnersAreParts};
+ghost use Rattle.buffer_pool.specs.Laws.{FoundBlocksCanBeGranted, WindowsAreBlocks};
 
 /// Every list of steps that each meet their needs, from the pool with no buffer and no grant, leads through lawful
 /// pools alone. No step moves, evicts or grants a minimum block of a buffer that has a holder then, and each such
@@ -25,3 +26,22 @@ pub fn owners_are_parts()
 {
     pool_model::laws::owners_are_parts();
 }
+
+/// No step from a lawful pool changes a buffer that another seat has for itself, or takes another seat's grant away.
+pub fn others_are_spared()
+    ensures { OthersAreSpared }
+{
+    pool_model::laws::others_are_spared();
+}
+
+/// A block that `find` gives of an arena's word is a block of the pool, clear in that word: it can be granted from it.
+pub fn found_blocks_can_be_granted()
+    ensures { FoundBlocksCanBeGranted }
+{
+    buddy_arena::laws::buddy_is_clear_block();
+}
+
+/// A window that `window` gives of an arena's word is a block of the pool.
+pub fn windows_are_blocks()
+    ensures { WindowsAreBlocks }
+{}

@@ -5,23 +5,25 @@
 //! a lawful pool for which the words and the seats' views stand.
 #![tactic(auto)]
 
+mod buffers;
 mod calls;
-#[cfg(test)]
-mod chain;
+mod cells;
 mod create;
 mod fault;
 pub mod laws;
+mod pins;
 mod pool;
+mod reading;
 mod seat;
-#[cfg(test)]
-mod tests;
-#[cfg(test)]
-mod threads;
 mod token;
 
+pub use buffer_word::Key;
+pub use buffers::{fill, open_header, publish};
 pub use calls::{grant, join, look, split, ungrant};
-pub use fault::OpenFault;
+pub use fault::{Lost, NotPinned, OpenFault};
+pub use pins::{pin, unpin};
 pub use pool::Pool;
 pub use pool_rule::{Geometry, LostGrant, WordName};
+pub use reading::read;
 pub use seat::PoolSeat;
-pub use token::Grant;
+pub use token::{Grant, NewBuffer, Pin};

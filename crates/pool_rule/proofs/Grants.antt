@@ -22,7 +22,7 @@ use Rattle.pool_rule.specs.declared.geometry.Setup.{Setup}
 use Rattle.pool_rule.specs.declared.view.Access.TheVariants.{Exchanged, Changed}
 use Rattle.pool_rule.specs.declared.view.View.{View}
 use Rattle.pool_rule.specs.Layout.{places_of, header_word, cell_word}
-use Rattle.pool_rule.specs.Rule.{IsStory, IsKept, seat_of, steps_of, setting_of, StandsFor, AreBits, view_at, own_grant}
+use Rattle.pool_rule.specs.Rule.{IsStory, Kept, seat_of, steps_of, setting_of, StandsFor, AreBits, view_at, own_grant}
 use Rattle.pool_rule.specs.Seats.{clear_mark, granted_at, spent, noted, with_step, with_granted}
 use Rattle.pool_rule.proofs.Blocks.{in_arena, covers_within, place_below, bits_set, bits_cleared}
 use Rattle.pool_rule.proofs.Frame.{IsAlike, below, is_view, own, stands_after, header_stays}
@@ -31,7 +31,7 @@ use Rattle.pool_rule.proofs.Story.{story_more, mine, theirs}
 
 -- ---- what is granted at a place, as a seat sees it
 
-own_is : (seat : ℕ) (o : Option GrantedBlock) (k : ℕ) → own_grant seat o ≡ Some k → o ≡ Some (record { order = k; owner = seat })
+pub own_is : (seat : ℕ) (o : Option GrantedBlock) (k : ℕ) → own_grant seat o ≡ Some k → o ≡ Some (record { order = k; owner = seat })
 own_is seat None k e = cc
 own_is seat (Some g) k e =
     elim (cases_eq g.owner seat) [
@@ -42,10 +42,10 @@ own_is seat (Some g) k e =
       | inr other ↦ let f : None ≡ Some k = rw (ne_eqb g.owner seat other) at e in cc
     ]
 
-own_mine : (seat k : ℕ) → own_grant seat (Some (record { order = k; owner = seat })) ≡ Some k
+pub own_mine : (seat k : ℕ) → own_grant seat (Some (record { order = k; owner = seat })) ≡ Some k
 own_mine seat k = rw (eq-eqb seat seat refl) refl
 
-own_other : (seat owner k : ℕ) → seat ≢ owner → own_grant seat (Some (record { order = k; owner = owner })) ≡ None
+pub own_other : (seat owner k : ℕ) → seat ≢ owner → own_grant seat (Some (record { order = k; owner = owner })) ≡ None
 own_other seat owner k apart = rw (ne_eqb owner seat (λ e. apart (sym e))) refl
 
 -- ---- owners through a change of one place
@@ -71,7 +71,7 @@ no_grant p place h free = go (grant_at p place) refl
 
 module _ (files : Option Files) (setup : Setup) (words : List ℕ) (views : List View) (log : List Step) (pool : PlainPool) (h : StandsFor files setup words views log pool) (id : ℕ) (v : View) (at : get_elem? views id ≡ some v) (live : 0 < length v.numbers) where
   -- the seat has another block granted at the place, or none, and so has the pool
-  grants_change : (w : View) (place : ℕ) (k : Option ℕ) (o : Option GrantedBlock) → w.granted ≡ set v.granted place k → place < places_of setup.geometry → own_grant id o ≡ k → ((seat : ℕ) → seat ≢ id → own_grant seat o ≡ None) → ((seat : ℕ) → seat ≢ id → own_grant seat (grant_at pool place) ≡ None) → (seat q : ℕ) → granted_at (view_at (set views id w) seat) q ≡ own_grant seat (get_or (set pool.grants place o) q None)
+  pub grants_change : (w : View) (place : ℕ) (k : Option ℕ) (o : Option GrantedBlock) → w.granted ≡ set v.granted place k → place < places_of setup.geometry → own_grant id o ≡ k → ((seat : ℕ) → seat ≢ id → own_grant seat o ≡ None) → ((seat : ℕ) → seat ≢ id → own_grant seat (grant_at pool place) ≡ None) → (seat q : ℕ) → granted_at (view_at (set views id w) seat) q ≡ own_grant seat (get_or (set pool.grants place o) q None)
   grants_change w place k o granted inside is_own no_other had_no_other seat q =
       let below_id = below files setup words views log pool h id v at live in
       let is = is_view files setup words views log pool h id v at live in
@@ -141,7 +141,7 @@ module _ (files : Option Files) (setup : Setup) (words : List ℕ) (views : List
         let is = is_view files setup words views log pool h id v at live in
         ap (λ u. granted_at u b.place) (sym is) ∙ (h.grants id b.place ∙ ap (own_grant id) none_here)
 
-    pub takes : IsKept files setup {S = Unit {0}} (record { words = set words (b.place / 64) (bit_or (get_or words (b.place / 64) 0) mask); homes = []; views = set views id (noted (b.place / 64) (get_or words (b.place / 64) 0) (bit_or (get_or words (b.place / 64) 0) mask) Exchanged (with_step (Grant id b) (with_granted b.place (Some b.order) v))) })
+    pub takes : Kept files setup (set words (b.place / 64) (bit_or (get_or words (b.place / 64) 0) mask)) (set views id (noted (b.place / 64) (get_or words (b.place / 64) 0) (bit_or (get_or words (b.place / 64) 0) mask) Exchanged (with_step (Grant id b) (with_granted b.place (Some b.order) v))))
     unfolding noted with_step with_granted
     takes =
         let i : ℕ = b.place / 64 in
@@ -172,7 +172,7 @@ module _ (files : Option Files) (setup : Setup) (words : List ℕ) (views : List
   -- ---- a block is given back
 
   module _ (in_arenas : CoversInArena) (clears : ClearingGives) (b : Block) (is_block : IsBlock 6 (places_of setup.geometry) b) (has : granted_at v b.place ≡ Some b.order) (mask : ℕ) (is_mask : IsMask mask (b.place % 64) b.order) (mask_fits : mask < 2 ^ 64) (fits : get_or words (b.place / 64) 0 < 2 ^ 64) where
-    pub gives : IsKept files setup {S = Unit {0}} (record { words = set words (b.place / 64) (bit_and (get_or words (b.place / 64) 0) (bit_not w64 mask)); homes = []; views = set views id (noted (b.place / 64) (get_or words (b.place / 64) 0) (bit_and (get_or words (b.place / 64) 0) (bit_not w64 mask)) Changed (with_step (Ungrant id b) (with_granted b.place None v))) })
+    pub gives : Kept files setup (set words (b.place / 64) (bit_and (get_or words (b.place / 64) 0) (bit_not w64 mask))) (set views id (noted (b.place / 64) (get_or words (b.place / 64) 0) (bit_and (get_or words (b.place / 64) 0) (bit_not w64 mask)) Changed (with_step (Ungrant id b) (with_granted b.place None v))))
     unfolding noted with_step with_granted
     gives =
         let i : ℕ = b.place / 64 in

@@ -27,7 +27,7 @@ use Rattle.pool_rule.specs.declared.view.Mark.{Mark}
 use Rattle.pool_rule.specs.declared.view.View.{View}
 use Rattle.pool_rule.specs.Headers.{HoldFits, ClaimFits, MarkFits, IsKnown, packed, hold_count, state_of}
 use Rattle.pool_rule.specs.Layout.{headers_of, header_word}
-use Rattle.pool_rule.specs.Rule.{IsKept, StandsFor, StandsForBuffer, setting_of, view_at, count_of, marks_of}
+use Rattle.pool_rule.specs.Rule.{Kept, StandsFor, StandsForBuffer, setting_of, view_at, count_of, marks_of}
 use Rattle.pool_rule.specs.Seats.{mark_at, spent, clear_mark, noted, with_key, key_of, known_key, hold_with_key, claim_with_key, mark_with_key}
 use Rattle.pool_rule.proofs.Frame.{below, is_view, own}
 use Rattle.pool_rule.proofs.Lists.{total-set}
@@ -69,7 +69,7 @@ known_is key None value old e = e
 known_is key (Some x) value old e = old
 
 -- a held buffer has a key
-held_key : (seat : ℕ) (mode : BufferMode) (holders : List ℕ) (key : Option BufferKey) (done : ℕ) → HoldersFit mode holders → HasKey mode key done → Holds seat holders → IsSome key
+pub held_key : (seat : ℕ) (mode : BufferMode) (holders : List ℕ) (key : Option BufferKey) (done : ℕ) → HoldersFit mode holders → HasKey mode key done → Holds seat holders → IsSome key
 held_key seat Live holders key done fits has holds = has
 held_key seat Moving holders key done fits has holds = has
 held_key seat Evicted holders key done fits has holds = has
@@ -78,7 +78,7 @@ held_key seat New holders key done fits has holds =
     let none : Holds seat [] = subst P fits holds in
     cc
 
-moving_key : (mode : BufferMode) (key : Option BufferKey) (done : ℕ) → mode ≡ Moving → HasKey mode key done → IsSome key
+pub moving_key : (mode : BufferMode) (key : Option BufferKey) (done : ℕ) → mode ≡ Moving → HasKey mode key done → IsSome key
 moving_key Moving key done e has = has
 moving_key Live key done e has = has
 moving_key Evicted key done e has = has
@@ -105,17 +105,17 @@ same_count key Free = refl
 same_count key Bid = refl
 same_count key (Pinned block k) = refl
 
-if_value : {A : Type 0} (P : A → Type 0) (o : Option A) (x : A) → o ≡ Some x → IfSome o P → P x
+pub if_value : {A : Type 0} (P : A → Type 0) (o : Option A) (x : A) → o ≡ Some x → IfSome o P → P x
 if_value P o x e h = let Q : Option _ → Type 0 = λ v. IfSome v P in subst Q e h
 
 module _ (law : EveryRunIsLawful) (files : Option Files) (setup : Setup) (words : List ℕ) (views : List View) (log : List Step) (pool : PlainPool) (h : StandsFor files setup words views log pool) (id : ℕ) (v : View) (at : get_elem? views id ≡ some v) (live : 0 < length v.numbers) (header : ℕ) (inside : header < headers_of setup.geometry) where
   key_here : ℕ
   key_here = get_or words (header_word setup.geometry header + 1) 0
 
-  lawful_buffer : (b : Buffer) → buffer_at pool header ≡ Some b → IsLawfulBuffer (setting_of files setup.geometry) (length pool.grants) b
+  pub lawful_buffer : (b : Buffer) → buffer_at pool header ≡ Some b → IsLawfulBuffer (setting_of files setup.geometry) (length pool.grants) b
   lawful_buffer b e = if_value _ (buffer_at pool header) b e ((story_lawful law files setup.geometry (length views) log pool h.story).buffers header)
 
-  key_is : (b : Buffer) → buffer_at pool header ≡ Some b → IsSome b.key → b.key ≡ Some (key_of (get_or words (header_word setup.geometry header + 1) 0))
+  pub key_is : (b : Buffer) → buffer_at pool header ≡ Some b → IsSome b.key → b.key ≡ Some (key_of (get_or words (header_word setup.geometry header + 1) 0))
   key_is b e has =
       let content = if_value _ (buffer_at pool header) b e (h.headers header inside).content in
       key_found (get_or words (header_word setup.geometry header + 1) 0) b.key has content.key_packs content.key_is
@@ -158,7 +158,7 @@ module _ (law : EveryRunIsLawful) (files : Option Files) (setup : Setup) (words 
       }
 
   -- the key word is loaded, and the seat learns the key
-  pub learns : let i = header_word setup.geometry header + 1 in let n = get_or words i 0 in IsKept files setup {S = Unit {0}} (record { words = set words i n; homes = []; views = set views id (noted i n n Loaded (with_key header n v)) })
+  pub learns : let i = header_word setup.geometry header + 1 in let n = get_or words i 0 in Kept files setup (set words i n) (set views id (noted i n n Loaded (with_key header n v)))
   unfolding noted with_key
   learns =
       let i = header_word setup.geometry header + 1 in

@@ -8,5 +8,16 @@ pub mod Blocks
 pub mod Grants
 pub mod Seated
 pub mod Opening
+pub mod HeaderStep
+pub mod StateWords
+pub mod KeyTold
+pub mod Counting
+pub mod Uncounting
+pub mod Opens
+pub mod Publishes
+pub mod Eights
+pub mod Cells
+pub mod Fills
+pub mod CellTold
 pub mod Allowed
 pub mod TableSeats

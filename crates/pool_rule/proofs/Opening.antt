@@ -15,7 +15,7 @@ use Rattle.pool_rule.specs.declared.geometry.Setup.{Setup}
 use Rattle.pool_rule.specs.declared.view.Mark.{Mark}
 use Rattle.pool_rule.specs.Headers.{HasContent, MarkFits, hold_count, state_of}
 use Rattle.pool_rule.specs.Layout.{headers_of, places_of, block_cells, header_word, word_count}
-use Rattle.pool_rule.specs.Rule.{IsKept, IsSeat, StandsForBuffer, view_at, has_number, first_pool, first_words, first_view, released_words, own_grant, cells_in, count_of}
+use Rattle.pool_rule.specs.Rule.{Kept, IsSeat, StandsForBuffer, view_at, has_number, first_pool, first_words, first_view, released_words, own_grant, cells_in, count_of}
 use Rattle.pool_rule.specs.Seats.{mark_at, granted_at, spent, clear_mark, numbers_from}
 use Rattle.pool_rule.proofs.Seated.{fresh_has_nothing}
 
@@ -178,7 +178,7 @@ module _ (files : Option Files) (setup : Setup) (seats : 0 < setup.seats) where
         each_seat = λ seat. let R : Option Buffer × Mark → Type 0 = λ z. MarkFits seat z.0 z.1 in subst R (λ i. (sym none i, sym (clear_at seat header) i)) (no_buffer seat);
       }
 
-  pub opens : IsKept files setup {S = Unit {0}} (record { words = first_words g; homes = []; views = first_view setup ∷ [] })
+  pub opens : Kept files setup (first_words g) (first_view setup ∷ [])
   opens =
       let numbers_count = length-numbers 0 setup.seats in (
         [],

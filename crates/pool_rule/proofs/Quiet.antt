@@ -14,7 +14,7 @@ use Rattle.pool_rule.specs.declared.view.Mark.{Mark}
 use Rattle.pool_rule.specs.declared.view.View.{View}
 use Rattle.pool_rule.specs.Headers.{hold_count}
 use Rattle.pool_rule.specs.Layout.{headers_of}
-use Rattle.pool_rule.specs.Rule.{IsKept, StandsFor, StandsForBuffer, AreBits, view_at, cells_in, count_of, marks_of}
+use Rattle.pool_rule.specs.Rule.{Kept, StandsFor, StandsForBuffer, AreBits, view_at, cells_in, count_of, marks_of}
 use Rattle.pool_rule.specs.Seats.{mark_at, granted_at, spent, noted, Told}
 use Rattle.pool_rule.proofs.Frame.{IsAlike, below, is_view, own, stands_after, header_again}
 use Rattle.pool_rule.proofs.Lists.{same_at, total-set}
@@ -59,7 +59,7 @@ module _ (files : Option Files) (setup : Setup) (words : List ℕ) (views : List
       told_of (Some ws) i e = ap (λ xs. get_or xs i 0) (sym e)
 
   -- a step that changes nothing but trail and known words
-  pub notes : (i : ℕ) (access : Access) → IsKept files setup {S = Unit {0}} (record { words = set words i (get_or words i 0); homes = []; views = set views id (noted i (get_or words i 0) (get_or words i 0) access v) })
+  pub notes : (i : ℕ) (access : Access) → Kept files setup (set words i (get_or words i 0)) (set views id (noted i (get_or words i 0) (get_or words i 0) access v))
   unfolding noted
   notes i access = (
     log ++ [],

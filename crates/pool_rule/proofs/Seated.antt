@@ -17,7 +17,7 @@ use Rattle.pool_rule.specs.declared.view.Mark.{Mark}
 use Rattle.pool_rule.specs.declared.view.View.{View}
 use Rattle.pool_rule.specs.Headers.{hold_count}
 use Rattle.pool_rule.specs.Layout.{headers_of, places_of}
-use Rattle.pool_rule.specs.Rule.{IsKept, IsSeat, AreShared, StandsFor, view_at, has_number, cells_in, count_of, marks_of}
+use Rattle.pool_rule.specs.Rule.{Kept, IsSeat, AreShared, StandsFor, view_at, has_number, cells_in, count_of, marks_of}
 use Rattle.pool_rule.specs.Seats.{HasNothing, mark_at, granted_at, spent, clear_mark, fresh_view, parted, part_of, joined}
 use Rattle.pool_rule.proofs.Frame.{below, is_view, own, header_again}
 use Rattle.pool_rule.proofs.Lists.{elem_below, elem_is, same_at, total-set, total-snoc}
@@ -187,7 +187,7 @@ module _ (files : Option Files) (setup : Setup) (words : List ℕ) (views : List
                 ]
           ]
 
-      pub parts : IsKept files setup {S = Unit {0}} (record { words = words; homes = []; views = set views id (parted count v) ++ part_of count v ∷ [] })
+      pub parts : Kept files setup words (set views id (parted count v) ++ part_of count v ∷ [])
       unfolding parted part_of
       parts =
           let nothing = fresh_has_nothing v.geometry (drop (length v.numbers - count) v.numbers) in (
@@ -287,7 +287,7 @@ module _ (files : Option Files) (setup : Setup) (words : List ℕ) (views : List
                 ]
           ]
 
-      pub joins : IsKept files setup {S = Unit {0}} (record { words = words; homes = []; views = set (set views id (joined v w)) other spent })
+      pub joins : Kept files setup words (set (set views id (joined v w)) other spent)
       unfolding joined
       joins = (
         log,

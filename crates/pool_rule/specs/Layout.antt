@@ -2,6 +2,8 @@
 -- The arenas' words come first, then state, key, touches and last of each header, then the clock, then the cells.
 use Rattle.std.specs.Prelude.{ℕ, ◌+◌, ◌*◌, ◌/◌, ◌<◌, ◌≤◌, IsTrue}
 use Rattle.std.specs.Int.{is_power_of_two}
+use Rattle.pool_model.specs.declared.block.Block.{Block}
+use Rattle.pool_model.specs.Block.{IsBlock}
 use Rattle.pool_rule.specs.declared.geometry.Geometry.{Geometry}
 use Rattle.pool_rule.specs.declared.geometry.WordName.{WordName}
 use Rattle.pool_rule.specs.declared.geometry.WordName.TheVariants.{Arena, State, KeyOf, Touches, Last, Clock}
@@ -13,6 +15,14 @@ headers_of g = 8 * g.sets
 -- the minimum blocks of all arenas, 64 in each
 abbrev pub places_of : Geometry → ℕ
 places_of g = 64 * g.arenas
+
+-- an arena has 64 minimum blocks, so no block is of an order above 6
+abbrev pub greatest_order : ℕ
+greatest_order = 6
+
+-- the block lies in one of the arenas
+abbrev pub IsBlockIn : Geometry → Block → Type 0
+IsBlockIn g b = IsBlock greatest_order (places_of g) b
 
 -- the cells of a minimum block, of eight bytes each
 abbrev pub block_cells : Geometry → ℕ

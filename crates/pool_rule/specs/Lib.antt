@@ -4,5 +4,6 @@ pub mod Headers
 pub mod Rule
 pub mod Plays
 pub mod Words
+pub mod WordSteps
 pub mod Tables
 pub mod Laws

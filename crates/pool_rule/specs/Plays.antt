@@ -1,25 +1,43 @@
--- What one step on a word tells its seat. Source: this project's own.
-use Rattle.std.specs.Prelude.{◌≡◌, ◌≢◌, ℕ, bit_and}
+-- What one step on a word has to keep, and what it tells its seat. Source: this project's own.
+use Rattle.std.specs.Prelude.{◌≡◌, ◌≢◌, ℕ, ◌/◌, ◌^◌, ◌<◌, List, Option, slice_index, slice_set}
+use mathlib.Core.Option.{some}
+use lib.ListN.{get_elem?}
 use Rattle.atomic_table.specs.Table.{Me}
 use Rattle.atomic_table.specs.Table as table
-use Rattle.pool_rule.specs.declared.view.Access.TheVariants.{Loaded, Exchanged, Failed, Changed}
+use Rattle.pool_model.specs.Content.{Files}
+use Rattle.pool_rule.specs.declared.aim.Aim.{Aim}
+use Rattle.pool_rule.specs.declared.aim.Aim.TheVariants.{Look, LookAtCell, Take, Return, Open, StoreKey, StoreCell, Publish, Count, Uncount}
+use Rattle.pool_rule.specs.declared.geometry.Geometry.{Geometry}
+use Rattle.pool_rule.specs.declared.geometry.Setup.{Setup}
+use Rattle.pool_rule.specs.declared.geometry.WordName.TheVariants as name
 use Rattle.pool_rule.specs.declared.view.View.{View}
-use Rattle.pool_rule.specs.Seats.{noted, Told}
+use Rattle.pool_rule.specs.declared.word_step.WordStep.TheVariants.{Looked, LookedAtCell, Missed, Granted, Returned, Opened, Named, Filled, Published, Counted, Uncounted}
+use Rattle.pool_rule.specs.Rule.{Kept}
+use Rattle.pool_rule.specs.WordSteps.{IsMade}
 
--- `change` is what the step does to the view beside its trail, given the word that was found
+-- Whatever words and views are while the rule holds and the seat has that view: when the word becomes f of what it was,
+-- the seat has a new view by which the rule is kept, and `told` holds of the word that was found and of the two views.
+abbrev pub IsAllowed : Option Files → Setup → ℕ → View → ℕ → (ℕ → ℕ) → (ℕ → View → View → Type 0) → Type 0
+IsAllowed files setup id v word f told =
+    (words : List ℕ) (views : List View) → Kept files setup words views → get_elem? views id ≡ some v → slice_index words word < 2 ^ 64 →
+    (w : View) × Kept files setup (slice_set words word (f (slice_index words word))) (slice_set views id w) × told (slice_index words word) v w
 
--- a load
-abbrev pub loads : {S : Type 0} → (ℕ → View → View) → table.Step S → Me S View → ℕ → Me S View → Type 0
-loads change st me found new = Told me.0 st.word found × (new ≡ (noted st.word found found Loaded (change found me.0), me.1))
+-- the seat is told that of the word and of its views before and after, and its slots stay
+abbrev pub plays : {S : Type 0} → (ℕ → View → View → Type 0) → table.Step S → Me S View → ℕ → Me S View → Type 0
+plays told st me found new = told found me.0 new.0 × (new.1 ≡ me.1)
 
--- an exchange: where the word was the expected one, the change is made, and the fact of the view before is told
-abbrev pub exchanges : {S : Type 0} → (ℕ → View → View) → (View → Type 0) → table.Step S → Me S View → ℕ → Me S View → Type 0
-exchanges change tells st me found new =
-    Told me.0 st.word found
-    × (found ≡ st.first → tells me.0 × (new ≡ (noted st.word found st.second Exchanged (change found me.0), me.1)))
-    × (found ≢ st.first → new ≡ (noted st.word found found Failed me.0, me.1))
-
--- a fetch_and
-abbrev pub masks : {S : Type 0} → (ℕ → View → View) → table.Step S → Me S View → ℕ → Me S View → Type 0
-masks change st me found new =
-    Told me.0 st.word found × (new ≡ (noted st.word found (bit_and found st.first) Changed (change found me.0), me.1))
+-- What a step of that aim tells, given the word that was found. An exchange is one step where the word was the expected one,
+-- and else another; a store tells no word, so there is one.
+abbrev pub told_by : Option Files → Geometry → ℕ → Aim → ℕ → View → View → Type 0
+told_by files g id (Look word) found v w = IsMade files g id (Looked word found) v w
+told_by files g id (LookAtCell cell) found v w = IsMade files g id (LookedAtCell cell found) v w
+told_by files g id (Take b seen) found v w =
+    (found ≡ seen → IsMade files g id (Granted b found) v w) × (found ≢ seen → IsMade files g id (Missed (name.Arena (b.place / 64)) found) v w)
+told_by files g id (Return b) found v w = IsMade files g id (Returned b found) v w
+told_by files g id (Open header b) found v w =
+    (found ≡ 8 → (cells : List ℕ) × IsMade files g id (Opened header b cells) v w) × (found ≢ 8 → IsMade files g id (Missed (name.State header) found) v w)
+told_by files g id (StoreKey header b key) stored v w = (found : ℕ) × IsMade files g id (Named header b key found) v w
+told_by files g id (StoreCell header b key done value) stored v w = (found : ℕ) × IsMade files g id (Filled header b key done value found) v w
+told_by files g id (Publish header b key) found v w = IsMade files g id (Published header b key found) v w
+told_by files g id (Count header) found v w = IsMade files g id (Counted header found) v w
+told_by files g id (Uncount header) found v w = IsMade files g id (Uncounted header found) v w

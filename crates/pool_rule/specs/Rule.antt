@@ -16,14 +16,14 @@ use Rattle.pool_rule.specs.declared.geometry.Setup.{Setup}
 use Rattle.pool_rule.specs.declared.view.Mark.{Mark}
 use Rattle.pool_rule.specs.declared.view.View.{View}
 use Rattle.pool_rule.specs.Headers.{IsHeader, hold_count}
-use Rattle.pool_rule.specs.Layout.{headers_of, places_of, block_cells, header_word, cell_word, word_count}
+use Rattle.pool_rule.specs.Layout.{greatest_order, headers_of, places_of, block_cells, header_word, cell_word, word_count}
 use Rattle.pool_rule.specs.Seats.{mark_at, granted_at, spent, fresh_view, numbers_from}
 
 -- ---- the pool and its story
 
--- what the pool is set up for: an arena has 64 minimum blocks, so no block is of an order above 6
+-- what the pool is set up for
 abbrev pub setting_of : Option Files → Geometry → Setting
-setting_of files g = record { greatest_order = 6; min_block = g.min_block; files = files }
+setting_of files g = record { greatest_order = greatest_order; min_block = g.min_block; files = files }
 
 -- the seat that makes a step
 abbrev pub seat_of : Step → ℕ
@@ -126,8 +126,12 @@ pub record StandsFor (files : Option Files) (setup : Setup) (words : List ℕ) (
   pub bits : AreBits setup.geometry words pool
 
 -- there is a pool for which they stand
+abbrev pub Kept : Option Files → Setup → List ℕ → List View → Type 0
+Kept files setup words views = (log : List Step) × ((pool : PlainPool) × StandsFor files setup words views log pool)
+
+-- the rule of a table, whatever its slots
 abbrev pub IsKept : Option Files → Setup → {S : Type 0} → State S View → Type 0
-IsKept files setup s = (log : List Step) × ((pool : PlainPool) × StandsFor files setup s.words s.views log pool)
+IsKept files setup s = Kept files setup s.words s.views
 
 -- ---- the beginning
 

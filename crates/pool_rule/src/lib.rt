@@ -6,7 +6,10 @@
 //! whoever makes them. The functions of `Words` make one step each, and say what becomes of the view.
 #![tactic(auto)]
 
+mod aim;
+mod atomics;
 mod geometry;
+mod header_steps;
 mod laid;
 pub mod laws;
 mod lost;
@@ -14,10 +17,12 @@ mod plays;
 mod rule;
 mod steps;
 mod view;
+mod word_step;
 mod words;
 
 pub use geometry::{Geometry, Setup, WordName};
 pub use lost::LostGrant;
 pub use rule::PoolRule;
 pub use view::{Access, Claim, Event, Hold, Mark, TableSeat, View};
+pub use word_step::WordStep;
 pub use words::Words;

@@ -1,4 +1,4 @@
-//! What a step tells its seat, and what it does to the seat's view: the call that makes the step picks that.
+//! What a step tells its seat: the call that makes the step picks it, since the table doesn't see which kind it is.
 
 ghost use Rattle.std.specs.Prelude.{ℕ};
 ghost use Rattle.pool_rule.specs.declared.view.View.{View};
@@ -7,47 +7,23 @@ use crate::View;
 use atomic_table::{Join, Play, Split};
 use std::marker::{Brand, PhantomData};
 
-/// What a step does to the view beside its trail, given the word that it found, and what it tells of the view before.
-pub(crate) trait Change {
-    ghost change: { ℕ → View → View };
-
-    ghost tells: { View → Type 0 };
+/// What a step tells: of the word that it found, and of the seat's views before and after.
+pub(crate) trait Telling {
+    ghost told: { ℕ → View → View → Type 0 };
 }
 
-impl Change for Brand {
-    ghost change = { λ found v. v };
-
-    ghost tells = { λ v. Unit {0} };
+impl Telling for Brand {
+    ghost told = { λ found v w. Unit {0} };
 }
 
-pub(crate) struct Loads<C> {
-    change: PhantomData<C>,
+pub(crate) struct Tells<C> {
+    telling: PhantomData<C>,
 }
 
-impl<S, C: Change> Play<S, View> for Loads<C> {
-    ghost use Rattle.pool_rule.specs.Plays.{loads};
+impl<S, C: Telling> Play<S, View> for Tells<C> {
+    ghost use Rattle.pool_rule.specs.Plays.{plays};
 
-    ghost then = { loads C.change };
-}
-
-pub(crate) struct Exchanges<C> {
-    change: PhantomData<C>,
-}
-
-impl<S, C: Change> Play<S, View> for Exchanges<C> {
-    ghost use Rattle.pool_rule.specs.Plays.{exchanges};
-
-    ghost then = { exchanges C.change C.tells };
-}
-
-pub(crate) struct Masks<C> {
-    change: PhantomData<C>,
-}
-
-impl<S, C: Change> Play<S, View> for Masks<C> {
-    ghost use Rattle.pool_rule.specs.Plays.{masks};
-
-    ghost then = { masks C.change };
+    ghost then = { plays C.told };
 }
 
 /// How many numbers a seat gives away.

@@ -1,17 +1,20 @@
 //! The steps that seats make, one atomic step each.
 
-ghost use Rattle.std.specs.Prelude.{◌≡◌, ◌≢◌, ◌↔◌, ℕ, ◌*◌, ◌/◌, ◌%◌, ◌<◌, length, Some, None, IfOk, OnOk, IfErr};
+ghost use Rattle.std.specs.Prelude.{◌≡◌, ◌≢◌, ℕ, ◌+◌, ◌*◌, ◌/◌, ◌%◌, ◌^◌, ◌<◌, ◌≤◌, length, Some, None, IfOk, OnOk, IfErr};
 ghost use Rattle.buddy_arena.specs.Block.{IsClear};
-ghost use Rattle.pool_model.specs.Block.{IsBlock};
-ghost use Rattle.pool_rule.specs.declared.view.View.{View};
-ghost use Rattle.pool_rule.specs.Layout.{IsWord, IsGeometry, AreSeats, index_of, places_of};
+ghost use Rattle.pool_model.specs.Block.{bytes_in, cells_for};
+ghost use Rattle.pool_rule.specs.declared.geometry.WordName.TheVariants.{Arena};
+ghost use Rattle.pool_rule.specs.declared.word_step.WordStep.TheVariants.{Granted, Looked, LookedAtCell, Missed, Returned};
+ghost use Rattle.pool_rule.specs.Layout.{AreSeats, IsBlockIn, IsGeometry, IsWord, block_cells, cell_word, index_of, places_of};
 ghost use Rattle.pool_rule.specs.Rule.{first_view};
-ghost use Rattle.pool_rule.specs.Seats.{HasNothing, Told, granted_at, joined, parted, part_of};
+ghost use Rattle.pool_rule.specs.Seats.{HasNothing, granted_at, joined, part_of, parted};
 ghost use Rattle.pool_rule.specs.Tables.{geometry_of, table_of};
-ghost use Rattle.pool_rule.specs.Words.{view, IsSeatAt, IsStill, learnt, looked, taking, giving, took, gave, missed};
+ghost use Rattle.pool_rule.specs.Words.{IsSeatAt, IsStill, view};
+ghost use Rattle.pool_rule.specs.WordSteps.{IsMade};
 
+use crate::aim::Aim;
 use crate::laid::first_words;
-use crate::plays::{Change, Count, Exchanges, Joins, Loads, Masks, Parts};
+use crate::plays::{Count, Joins, Parts};
 use crate::{Geometry, LostGrant, Setup, TableSeat, WordName, Words};
 use atomic_table::Table;
 use buddy_arena::mask;
@@ -48,7 +51,7 @@ impl<W: World> Words<W> {
     }
 
     /// The index of a word in the table.
-    fn index(&self, word: WordName) -> usize
+    pub(crate) fn index(&self, word: WordName) -> usize
         requires { IsWord (geometry_of self.now) word }
         ensures same { result ≡ index_of (geometry_of self.now) word }
         ensures inside { result < self.now.table.shared.table_id.words }
@@ -65,52 +68,48 @@ impl<W: World> Words<W> {
         index as usize
     }
 
-    /// Loads a word. What the seat learns by it is the caller's pick.
-    fn load<C: Change>(&self, seat: &mut TableSeat, word: WordName) -> u64
-        requires seat { IsSeatAt (table_of self.now) (geometry_of self.now) seat.old }
-        requires word { IsWord (geometry_of self.now) word }
-        requires change { C.change ≡ learnt word }
-        ensures seat { IsStill (table_of self.now) (geometry_of self.now) seat.old seat.new }
-        ensures told { Told (view seat.old) (index_of (geometry_of self.now) word) result }
-        ensures view { view seat.new ≡ looked (geometry_of self.now) word result (view seat.old) }
-    {
-        // laws do nothing: each hands the proof a fact
-        pool_model::laws::every_run_is_lawful();
-        self.table.shared.load::<Loads<C>>(seat, self.index(word))
-    }
-
     /// Loads a word. That of a header's key tells the key to a pin of the header, or to a buffer that the seat moves.
     pub fn look(&self, seat: &mut TableSeat, word: WordName) -> u64
         requires seat { IsSeatAt (table_of self.now) (geometry_of self.now) seat.old }
         requires word { IsWord (geometry_of self.now) word }
         ensures seat { IsStill (table_of self.now) (geometry_of self.now) seat.old seat.new }
-        ensures told { Told (view seat.old) (index_of (geometry_of self.now) word) result }
-        ensures view { view seat.new ≡ looked (geometry_of self.now) word result (view seat.old) }
+        ensures made { IsMade W.files (geometry_of self.now) seat.old.id (Looked word result) (view seat.old) (view seat.new) }
     {
-        self.load::<Brand>(seat, word)
+        // laws do nothing: each hands the proof a fact
+        pool_model::laws::every_run_is_lawful();
+        let index = self.index(word);
+        self.load::<Brand>(seat, index, Aim::Look { word })
     }
 
-    /// The exchange that takes a block. What it does to the view is the caller's pick.
-    fn exchange<C: Change>(&self, seat: &mut TableSeat, block: Block, seen: u64) -> u64
-        requires seat { IsSeatAt (table_of self.now) (geometry_of self.now) seat.old }
-        requires block { IsBlock 6 (places_of (geometry_of self.now)) block }
-        requires clear { IsClear seen (block.place % 64) block.order }
-        requires change { C.change ≡ (λ _ v. taking seat.old.id block v) }
-        requires tells { (v : View) → C.tells v ↔ (granted_at v block.place ≡ None) }
-        ensures seat { IsStill (table_of self.now) (geometry_of self.now) seat.old seat.new }
-        ensures told { Told (view seat.old) (block.place / 64) result }
-        ensures fresh { result ≡ seen → granted_at (view seat.old) block.place ≡ None }
-        ensures took { result ≡ seen → view seat.new ≡ took seat.old.id block seen (view seat.old) }
-        ensures missed { result ≢ seen → view seat.new ≡ missed (block.place / 64) result (view seat.old) }
+    /// The index of a cell in the table, counted over all minimum blocks.
+    pub(crate) fn cell_index(&self, cell: u32) -> usize
+        requires { cell < places_of (geometry_of self.now) * block_cells (geometry_of self.now) }
+        ensures same { result ≡ cell_word (geometry_of self.now) cell }
+        ensures inside { result < self.now.table.shared.table_id.words }
     {
-        buddy_arena::laws::block_in_arena();
-        buddy_arena::laws::covers_in_arena();
-        buddy_arena::laws::setting_takes();
-        let bits = mask(block.place % 64, block.order);
-        let arena = (block.place / 64) as usize;
-        self.table
-            .shared
-            .compare_exchange::<Exchanges<C>>(seat, arena, seen, seen | bits)
+        self.index(WordName::Clock) + 1 + cell as usize
+    }
+
+    /// The cell of a block, counted over all minimum blocks.
+    pub fn cell_of(&self, block: Block, cell: u32) -> u32
+        requires block { IsBlockIn (geometry_of self.now) block }
+        requires cell { cell < cells_for (bytes_in (geometry_of self.now).min_block block) }
+        ensures same { result ≡ block.place * block_cells (geometry_of self.now) + cell }
+        ensures inside { result < places_of (geometry_of self.now) * block_cells (geometry_of self.now) }
+    {
+        block.place * (self.geometry.min_block / 8) + cell
+    }
+
+    /// Loads a cell, counted over all minimum blocks.
+    pub fn look_at_cell(&self, seat: &mut TableSeat, cell: u32) -> u64
+        requires seat { IsSeatAt (table_of self.now) (geometry_of self.now) seat.old }
+        requires cell { cell < places_of (geometry_of self.now) * block_cells (geometry_of self.now) }
+        ensures seat { IsStill (table_of self.now) (geometry_of self.now) seat.old seat.new }
+        ensures made { IsMade W.files (geometry_of self.now) seat.old.id (LookedAtCell cell result) (view seat.old) (view seat.new) }
+    {
+        pool_model::laws::every_run_is_lawful();
+        let index = self.cell_index(cell);
+        self.load::<Brand>(seat, index, Aim::LookAtCell { cell })
     }
 
     /// Takes a block: one exchange of its arena's word, from the word that is expected to the one with the block's bits
@@ -120,14 +119,18 @@ impl<W: World> Words<W> {
     /// the pool is as it was.
     pub fn take_block(&self, seat: &mut TableSeat, block: Block, seen: u64) -> Result<(), LostGrant>
         requires seat { IsSeatAt (table_of self.now) (geometry_of self.now) seat.old }
-        requires block { IsBlock 6 (places_of (geometry_of self.now)) block }
+        requires block { IsBlockIn (geometry_of self.now) block }
         requires clear { IsClear seen (block.place % 64) block.order }
         ensures seat { IsStill (table_of self.now) (geometry_of self.now) seat.old seat.new }
-        ensures fresh { OnOk result (granted_at (view seat.old) block.place ≡ None) }
-        ensures ok { OnOk result (Told (view seat.old) (block.place / 64) seen × (view seat.new ≡ took seat.old.id block seen (view seat.old))) }
-        ensures err { IfErr result (λ e. (e.saw ≢ seen) × Told (view seat.old) (block.place / 64) e.saw × (view seat.new ≡ missed (block.place / 64) e.saw (view seat.old))) }
+        ensures ok { OnOk result (IsMade W.files (geometry_of self.now) seat.old.id (Granted block seen) (view seat.old) (view seat.new)) }
+        ensures err { IfErr result (λ e. (e.saw ≢ seen) × IsMade W.files (geometry_of self.now) seat.old.id (Missed (Arena (block.place / 64)) e.saw) (view seat.old) (view seat.new)) }
     {
-        let saw = self.exchange::<Brand>(seat, block, seen);
+        buddy_arena::laws::block_in_arena();
+        buddy_arena::laws::covers_in_arena();
+        buddy_arena::laws::setting_takes();
+        let bits = mask(block.place % 64, block.order);
+        let arena = (block.place / 64) as usize;
+        let saw = self.exchange::<Brand>(seat, arena, seen, seen | bits, Aim::Take { block, seen });
         if saw == seen {
             Ok(())
         } else {
@@ -135,34 +138,20 @@ impl<W: World> Words<W> {
         }
     }
 
-    /// The fetch_and that gives a block back. What it does to the view is the caller's pick.
-    fn mask_out<C: Change>(&self, seat: &mut TableSeat, block: Block) -> u64
+    /// Gives a granted block back: one fetch_and clears its bits. Gives the word that it found.
+    pub fn give_block(&self, seat: &mut TableSeat, block: Block) -> u64
         requires seat { IsSeatAt (table_of self.now) (geometry_of self.now) seat.old }
-        requires block { IsBlock 6 (places_of (geometry_of self.now)) block }
+        requires block { IsBlockIn (geometry_of self.now) block }
         requires granted { granted_at (view seat.old) block.place ≡ Some block.order }
-        requires change { C.change ≡ (λ _ v. giving seat.old.id block v) }
         ensures seat { IsStill (table_of self.now) (geometry_of self.now) seat.old seat.new }
-        ensures told { Told (view seat.old) (block.place / 64) result }
-        ensures view { view seat.new ≡ gave seat.old.id block result (view seat.old) }
+        ensures made { IsMade W.files (geometry_of self.now) seat.old.id (Returned block result) (view seat.old) (view seat.new) }
     {
         buddy_arena::laws::block_in_arena();
         buddy_arena::laws::covers_in_arena();
         buddy_arena::laws::clearing_gives();
         let bits = mask(block.place % 64, block.order);
         let arena = (block.place / 64) as usize;
-        self.table.shared.fetch_and::<Masks<C>>(seat, arena, !bits)
-    }
-
-    /// Gives a granted block back: one fetch_and clears its bits. Gives the word that it found.
-    pub fn give_block(&self, seat: &mut TableSeat, block: Block) -> u64
-        requires seat { IsSeatAt (table_of self.now) (geometry_of self.now) seat.old }
-        requires block { IsBlock 6 (places_of (geometry_of self.now)) block }
-        requires granted { granted_at (view seat.old) block.place ≡ Some block.order }
-        ensures seat { IsStill (table_of self.now) (geometry_of self.now) seat.old seat.new }
-        ensures told { Told (view seat.old) (block.place / 64) result }
-        ensures view { view seat.new ≡ gave seat.old.id block result (view seat.old) }
-    {
-        self.mask_out::<Brand>(seat, block)
+        self.and::<Brand>(seat, arena, !bits, Aim::Return { block })
     }
 
     /// Parts a seat. How many numbers go is known to the proof alone, so the caller picks it.

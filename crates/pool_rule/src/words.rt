@@ -13,8 +13,8 @@ use std::alloc::Global;
 pub struct Words<W: World> {
     pub(crate) table: Table<(), View, Setup, PoolRule<W>, Global>,
     pub(crate) geometry: Geometry,
-    pub ghost all_words: { table.shared.table_id.words ≡ word_count geometry },
+    pub ghost all_words: { table.shared.table_id.words ≡ word_count table.shared.key.geometry },
     pub ghost told: { table.shared.key.geometry ≡ geometry },
-    pub ghost sized: { IsGeometry geometry },
+    pub ghost sized: { IsGeometry table.shared.key.geometry },
     pub ghost few: { AreSeats table.shared.key.seats },
 }

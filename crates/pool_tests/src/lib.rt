@@ -5,3 +5,7 @@
 mod blocks;
 #[cfg(test)]
 mod packed_words;
+#[cfg(test)]
+mod plain_pool;
+#[cfg(test)]
+mod sizes;

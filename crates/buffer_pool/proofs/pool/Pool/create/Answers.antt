@@ -1,6 +1,6 @@
 use Rattle.std.proofs.Common.{length, ap, ◌∙◌}
 use Rattle.pool_rule.specs.declared.view.View.{View}
-use Rattle.buffer_pool.proofs.Views.{first_numbers}
+use Rattle.buffer_pool.proofs.First.{first_numbers}
 use Rattle.buffer_pool.proofs.pool.Pool.create.Goals as goal
 
 pub returns-in-Ok-clause-numbers : goal.returns-in-Ok-clause-numbers

@@ -1,5 +1,5 @@
-use Rattle.pool_rule.specs.Words.{learnt}
+use Rattle.pool_rule.specs.Plays.{told_by}
 use Rattle.pool_rule.proofs.words.Words.look.Given as goal
 
 abbrev pub ghosts-load : goal.ghosts-load
-ghosts-load g a = record { change = learnt a.word; tells = λ v. Unit {0} }
+ghosts-load g a = record { told = told_by g.W.World.files a.self.now.table.shared.key.geometry a.seat.now.id a._aim }

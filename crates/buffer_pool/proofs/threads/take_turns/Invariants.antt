@@ -1,6 +1,0 @@
-use Rattle.pool_rule.specs.Seats.{HasNothing}
-use Rattle.buffer_pool.specs.Pools.{IsSeatOf, view}
-use Rattle.buffer_pool.proofs.threads.take_turns.Given as goal
-
-abbrev pub invariant-loop : goal.invariant-loop
-invariant-loop g l = IsSeatOf l.pool l.seat × HasNothing (view l.seat)

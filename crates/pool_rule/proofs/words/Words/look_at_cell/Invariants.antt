@@ -1,0 +1,5 @@
+use Rattle.pool_rule.specs.Plays.{told_by}
+use Rattle.pool_rule.proofs.words.Words.look_at_cell.Given as goal
+
+abbrev pub ghosts-load : goal.ghosts-load
+ghosts-load g a = record { told = told_by g.W.World.files a.self.now.table.shared.key.geometry a.seat.now.id a._aim }
