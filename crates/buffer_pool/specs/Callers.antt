@@ -4,7 +4,8 @@ use Rattle.std.specs.Prelude.{◌≡◌, ◌≢◌, ◌==◌, ℕ, ◌%◌, ◌<
 use Rattle.std.proofs.Common.{refl, sym, ◌∙◌, ap, subst, inl, inr}
 use Rattle.std.proofs.lemmas.Bool.{cases_eq, cases_lt}
 use Rattle.std.proofs.lemmas.Option.{none-some}
-use Rattle.std.proofs.lemmas.List.{length-set, get_or-set_same, get_or-set_other, set_past, append_assoc, append-nil}
+use Rattle.std.proofs.lemmas.List.{length-set, get_or-set_same, get_or-set_other, get_or_past, set_past, append_assoc, append-nil}
+use Rattle.pool_model.specs.declared.block.Block.{Block}
 use Rattle.pool_model.specs.declared.step.Step.{Step}
 use Rattle.pool_model.specs.Content.{Files}
 use Rattle.pool_rule.specs.declared.geometry.Geometry.{Geometry}
@@ -323,6 +324,33 @@ missed_nothing files g id word found v w m h =
       granted = λ place. made_granted files g id (Missed word found) v w m place (none-some place) ∙ h.granted place;
     }
 
+gone_at : (place : ℕ) (v : View) → granted_at (with_granted place None v) place ≡ None
+unfolding with_granted
+gone_at place v =
+    elim (cases_lt place (length v.granted)) [
+      | inl within ↦ get_or-set_same v.granted place None None within
+      | inr past ↦ ap (λ l. slice_index_or l place None) (set_past v.granted place None past) ∙ get_or_past v.granted place None past
+    ]
+
+-- a returned block isn't granted any more
+pub returned_gone : (files : Option Files) (g : Geometry) (id : ℕ) (b : Block) (found : ℕ) (v w : View) → IsMade files g id (Returned b found) v w → granted_at w b.place ≡ None
+unfolding noted
+returned_gone files g id b found v w m = ap (λ u. granted_at u b.place) m.view ∙ (granted_of_step _ _ b.place ∙ gone_at b.place v)
+
+-- over a grant and its return
+pub returned_nothing : (files : Option Files) (g : Geometry) (id id' : ℕ) (b : Block) (seen found : ℕ) (v u w : View) → IsMade files g id (Granted b seen) v u → IsMade files g id' (Returned b found) u w → HasNothing v → HasNothing w
+returned_nothing files g id id' b seen found v u w m r h =
+    record {
+      marks = λ other. made_mark files g id' (Returned b found) u w r other (none-some other) ∙ (made_mark files g id (Granted b seen) v u m other (none-some other) ∙ h.marks other);
+      granted = λ place.
+          elim (cases_eq place b.place) [
+            | inl same ↦ ap (granted_at w) same ∙ returned_gone files g id' b found u w r
+            | inr apart ↦
+                let away : Some b.place ≢ Some place = λ e. apart (let f : place ≡ b.place = cc in f) in
+                made_granted files g id' (Returned b found) u w r place away ∙ (made_granted files g id (Granted b seen) v u m place away ∙ h.granted place)
+          ];
+    }
+
 -- ---- tokens
 
 -- a token is still the seat's after a step that has nothing to do with its place or header
@@ -343,4 +371,4 @@ pub apart_from : {W : Type 0} (pool : Pool W) (seat : PoolSeat W) (grant : Grant
 apart_from pool seat grant place token free same =
     none-some (block_of grant).order (sym free ∙ (ap (granted_at (view seat)) (sym same) ∙ token.granted))
 
-pub ruleset callers = (one_made, all_then, made_trail, made_numbers, made_mark, made_granted, all_trail, all_numbers, all_mark, all_granted, finds_known, knows_left, knows_other, looked_nothing, missed_nothing, grant_stays, new_stays, pin_stays, apart_from)
+pub ruleset callers = (one_made, all_then, made_trail, made_numbers, made_mark, made_granted, all_trail, all_numbers, all_mark, all_granted, finds_known, knows_left, knows_other, looked_nothing, missed_nothing, returned_gone, returned_nothing, grant_stays, new_stays, pin_stays, apart_from)

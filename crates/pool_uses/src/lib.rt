@@ -1,0 +1,8 @@
+//! How the pool's calls are used, as callers that are proved. No program uses this crate.
+#![tactic(auto)]
+
+mod sharing;
+mod turns;
+
+pub use sharing::{publish_range, read_range, share};
+pub use turns::{take_turns, turn};
