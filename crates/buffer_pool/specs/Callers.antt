@@ -1,23 +1,25 @@
 -- For those who make several calls in a row: what follows by name from the step that a call made, as lemmas that a proof of
 -- theirs can use. `m` says in each which step was made, from the view v to the view w.
-use Rattle.std.specs.Prelude.{◌≡◌, ◌≢◌, ◌==◌, ℕ, ◌%◌, ◌<◌, if◌then◌else◌, Bool, true, false, List, [], ◌∷◌, ◌++◌, map, length, Option, None, Some, IfSome, IsSomeAnd, option_map, slice_index, slice_index_or, slice_set}
-use Rattle.std.proofs.Common.{refl, sym, ◌∙◌, ap, subst, inl, inr}
+use Rattle.std.specs.Prelude.{◌≡◌, ◌≢◌, ◌==◌, ℕ, ◌-◌, ◌%◌, ◌<◌, replicate, if◌then◌else◌, Bool, true, false, List, [], ◌∷◌, ◌++◌, map, length, Option, None, Some, IfSome, IsSomeAnd, option_map, slice_index, slice_index_or, slice_set}
+use Rattle.std.proofs.Common.{refl, sym, ◌∙◌, ap, subst, inl, inr, arith}
 use Rattle.std.proofs.lemmas.Bool.{cases_eq, cases_lt}
 use Rattle.std.proofs.lemmas.Option.{none-some}
-use Rattle.std.proofs.lemmas.List.{length-set, get_or-set_same, get_or-set_other, get_or_past, set_past, append_assoc, append-nil}
+use Rattle.std.proofs.lemmas.List.{length-set, length-drop, length-replicate, get_or-set_same, get_or-set_other, get_or_past, get_or-replicate, set_past, take-append-drop, append_assoc, append-nil}
 use Rattle.pool_model.specs.declared.block.Block.{Block}
 use Rattle.pool_model.specs.declared.step.Step.{Step}
 use Rattle.pool_model.specs.Content.{Files}
 use Rattle.pool_rule.specs.declared.geometry.Geometry.{Geometry}
 use Rattle.pool_rule.specs.declared.geometry.WordName.{WordName}
 use Rattle.pool_rule.specs.declared.geometry.WordName.TheVariants as name
+use Rattle.pool_rule.specs.declared.view.Event.TheVariants.{Joined, Parted}
 use Rattle.pool_rule.specs.declared.view.Hold.{Hold}
 use Rattle.pool_rule.specs.declared.view.Hold.TheVariants.{Free, Bid, Pinned}
 use Rattle.pool_rule.specs.declared.view.Mark.{Mark}
 use Rattle.pool_rule.specs.declared.view.View.{View}
 use Rattle.pool_rule.specs.declared.word_step.WordStep.{WordStep}
 use Rattle.pool_rule.specs.declared.word_step.WordStep.TheVariants.{Looked, LookedAtCell, Missed, Granted, Returned, Opened, Named, Filled, Published, Counted, Uncounted}
-use Rattle.pool_rule.specs.Seats.{HasNothing, clear_mark, granted_at, key_of, mark_at, mark_with_key, noted, with_granted, with_key, with_mark, with_step}
+use Rattle.pool_rule.specs.Layout.{headers_of, places_of}
+use Rattle.pool_rule.specs.Seats.{HasNothing, clear_mark, granted_at, joined, key_of, mark_at, mark_with_key, noted, part_of, parted, with_granted, with_key, with_mark, with_step}
 use Rattle.pool_rule.specs.WordSteps.{IsMade, dropping, effect, event_of, found_by, learnt, left_by, word_at}
 use Rattle.buffer_pool.specs.declared.pool.Pool.{Pool}
 use Rattle.buffer_pool.specs.declared.seat.PoolSeat.{PoolSeat}
@@ -282,6 +284,13 @@ module _ (files : Option Files) (g : Geometry) (id : ℕ) (s : WordStep) (v w : 
 
 -- ---- nothing
 
+replicated : {A : Type 0} (n k : ℕ) (a : A) → slice_index_or (replicate n a) k a ≡ a
+replicated {A = A} n k a =
+    elim (cases_lt k n) [
+      | inl within ↦ get_or-replicate n k a a within
+      | inr past ↦ get_or_past (replicate n a) k a (omega (arith, length-replicate {A = A} n a, past))
+    ]
+
 clear_with_key : (m : Mark) (found : ℕ) → m ≡ clear_mark → mark_with_key (key_of found) m ≡ clear_mark
 clear_with_key m found e = ap (mark_with_key (key_of found)) e
 
@@ -351,6 +360,54 @@ returned_nothing files g id id' b seen found v u w m r h =
           ];
     }
 
+-- ---- seats parted and joined
+
+module _ (count : ℕ) (v : View) where
+  -- a part has nothing but its numbers
+  pub part_nothing : HasNothing (part_of count v)
+  unfolding part_of
+  part_nothing =
+      record { marks = λ header. replicated (headers_of v.geometry) header clear_mark; granted = λ place. replicated (places_of v.geometry) place None }
+
+  pub part_count : count < length v.numbers → length (part_of count v).numbers ≡ count
+  unfolding part_of
+  part_count h = omega (arith, length-drop (length v.numbers - count) v.numbers, h)
+
+  pub part_knows : ((part_of count v).known ≡ None) × ((part_of count v).trail ≡ []) × ((part_of count v).steps ≡ [])
+  unfolding part_of
+  part_knows = (refl, refl, refl)
+
+  -- a seat that was parted has what it had but those numbers, and doesn't know the words
+  pub parted_numbers : (parted count v).numbers ++ (part_of count v).numbers ≡ v.numbers
+  unfolding parted part_of
+  parted_numbers = take-append-drop (length v.numbers - count) v.numbers
+
+  pub parted_keeps : ((parted count v).marks ≡ v.marks) × ((parted count v).granted ≡ v.granted) × ((parted count v).steps ≡ v.steps)
+  unfolding parted
+  parted_keeps = (refl, refl, refl)
+
+  pub parted_knows : ((parted count v).known ≡ None) × ((parted count v).trail ≡ v.trail ++ Parted count ∷ [])
+  unfolding parted
+  parted_knows = (refl, refl)
+
+  pub parted_nothing : HasNothing v → HasNothing (parted count v)
+  unfolding parted
+  parted_nothing h = record { marks = h.marks; granted = h.granted }
+
+-- and so has one that was joined by another
+module _ (v w : View) where
+  pub joined_keeps : ((joined v w).marks ≡ v.marks) × ((joined v w).granted ≡ v.granted) × ((joined v w).steps ≡ v.steps) × ((joined v w).numbers ≡ v.numbers ++ w.numbers)
+  unfolding joined
+  joined_keeps = (refl, refl, refl, refl)
+
+  pub joined_knows : ((joined v w).known ≡ None) × ((joined v w).trail ≡ v.trail ++ Joined ∷ [])
+  unfolding joined
+  joined_knows = (refl, refl)
+
+  pub joined_nothing : HasNothing v → HasNothing (joined v w)
+  unfolding joined
+  joined_nothing h = record { marks = h.marks; granted = h.granted }
+
 -- ---- tokens
 
 -- a token is still the seat's after a step that has nothing to do with its place or header
@@ -371,4 +428,4 @@ pub apart_from : {W : Type 0} (pool : Pool W) (seat : PoolSeat W) (grant : Grant
 apart_from pool seat grant place token free same =
     none-some (block_of grant).order (sym free ∙ (ap (granted_at (view seat)) (sym same) ∙ token.granted))
 
-pub ruleset callers = (one_made, all_then, made_trail, made_numbers, made_mark, made_granted, all_trail, all_numbers, all_mark, all_granted, finds_known, knows_left, knows_other, looked_nothing, missed_nothing, returned_gone, returned_nothing, grant_stays, new_stays, pin_stays, apart_from)
+pub ruleset callers = (one_made, all_then, made_trail, made_numbers, made_mark, made_granted, all_trail, all_numbers, all_mark, all_granted, finds_known, knows_left, knows_other, looked_nothing, missed_nothing, returned_gone, returned_nothing, part_nothing, part_count, part_knows, parted_numbers, parted_keeps, parted_knows, parted_nothing, joined_keeps, joined_knows, joined_nothing, grant_stays, new_stays, pin_stays, apart_from)

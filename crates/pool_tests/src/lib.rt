@@ -8,4 +8,8 @@ mod packed_words;
 #[cfg(test)]
 mod plain_pool;
 #[cfg(test)]
+mod sharing;
+#[cfg(test)]
 mod sizes;
+#[cfg(test)]
+mod threads;
