@@ -17,7 +17,7 @@ use Rattle.fragment_plan.specs.declared.fragment.FoldKind.{FoldKind}
 use Rattle.fragment_plan.specs.declared.fragment.FoldKind.TheVariants as fold
 use Rattle.fragment_plan.specs.declared.shape.Shape.{Shape}
 use Rattle.fragment_plan.specs.Columns.{placed_at, placed, column, all_placed, column_list}
-use Rattle.fragment_plan.specs.Tests.{check, test, more_tests, tests}
+use Rattle.fragment_plan.specs.Tests.{check, one_test, more_tests, tests}
 use Rattle.fragment_plan.specs.Sources.{known, all_known, sources, after, new_name}
 use Rattle.fragment_plan.specs.Shapes.{is_whole, shapes_of}
 use Rattle.fragment_plan.specs.Fragments.{rows_fold, column_fold, fold_by, scan_by, merge, work_by, work, shaped, line, names_of, fragment_of}
@@ -159,9 +159,9 @@ TestsPlaced before x = TestsBelow (length x.1) x.0 × Grown before x.1
 tests-more : (m n : ℕ) (list : List Test) → m ≤ n → TestsBelow m list → TestsBelow n list
 tests-more m n list h all = All-weaker (λ (test : Test). test.column < m) (λ test. test.column < n) (λ test p. omega (arith, h, p)) list all
 
-test_bound : (columns : List (List ℕ)) (left : List ℕ) (y : (Test × List (List ℕ)) × List ℕ) → length columns ≤ 16 → test columns left ≡ Ok y
+test_bound : (columns : List (List ℕ)) (left : List ℕ) (y : (Test × List (List ℕ)) × List ℕ) → length columns ≤ 16 → one_test columns left ≡ Ok y
     → (y.0.0.column < length y.0.1) × Grown columns y.0.1
-unfolding test
+unfolding one_test
 test_bound columns left y few e =
     let a = inv (column columns left) (λ x. and_then (check x.1) (λ z. Ok ((record { column = x.0.0; check = z.0 }, x.0.1), z.1))) y e in
     let b = inv (check a.0.1) (λ z. Ok ((record { column = a.0.0.0; check = z.0 }, a.0.0.1), z.1)) y a.2 in
@@ -175,7 +175,7 @@ unfolding more_tests
 more_bound zero columns done left y few all e =
     let a = inv (name left) (λ x. Err kind.TooMany) y e in absurd cc
 more_bound (suc room) columns done left y few all e =
-    let a = inv (test columns left) (λ x. and_then (option (codes "and") x.1) (λ z. (if z.0 then more_tests room x.0.1 (done ++ x.0.0 ∷ []) else gives (done ++ x.0.0 ∷ [], x.0.1)) z.1)) y e in
+    let a = inv (one_test columns left) (λ x. and_then (option (codes "and") x.1) (λ z. (if z.0 then more_tests room x.0.1 (done ++ x.0.0 ∷ []) else gives (done ++ x.0.0 ∷ [], x.0.1)) z.1)) y e in
     let b = inv (option (codes "and") a.0.1) (λ z. (if z.0 then more_tests room a.0.0.1 (done ++ a.0.0.0 ∷ []) else gives (done ++ a.0.0.0 ∷ [], a.0.0.1)) z.1) y a.2 in
     let p = test_bound columns left a.0 few a.1 in
     let pushed = All-push (λ (test : Test). test.column < length a.0.0.1) done a.0.0.0 (tests-more (length columns) (length a.0.0.1) done p.1.more all) p.0 in

@@ -71,8 +71,8 @@ check = do
   check_by found
 
 -- one test, with the columns that are named then
-unfoldable pub test : List (List ℕ) → Reads (Test × List (List ℕ))
-test columns = do
+unfoldable pub one_test : List (List ℕ) → Reads (Test × List (List ℕ))
+one_test columns = do
   at ← column columns
   asked ← check
   gives (record { column = at.0; check = asked }, at.1)
@@ -83,7 +83,7 @@ more_tests zero columns done = do
   name
   fails kind.TooMany
 more_tests (suc room) columns done = do
-  one ← test columns
+  one ← one_test columns
   goes_on ← option (codes "and")
   if goes_on then more_tests room one.1 (done ++ one.0 ∷ []) else gives (done ++ one.0 ∷ [], one.1)
 

@@ -2,7 +2,7 @@
 
 ghost use Rattle.std.specs.Prelude.{◌≡◌};
 ghost use Rattle.plan_words.specs.Steps.{Gives, GivesOr};
-ghost use Rattle.fragment_plan.specs.Tests.{op_of, is_equality, may_compare, compared, null_check_by, null_check, check_by, check, test, more_tests, tests};
+ghost use Rattle.fragment_plan.specs.Tests.{op_of, is_equality, may_compare, compared, null_check_by, null_check, check_by, check, one_test, more_tests, tests};
 
 use crate::columns::{Columns, read_column};
 use crate::test::{Check, Op, Test};
@@ -106,9 +106,9 @@ fn read_check(alloc: Global, left: &[u8]) -> Result<(Check, &[u8]), Stop>
 }
 
 /// One test, with the columns that are named then, and what is left.
-#[tactic(auto, unfolding(crate::specs::Tests::test))]
+#[tactic(auto, unfolding(crate::specs::Tests::one_test))]
 fn read_test(alloc: Global, columns: Columns, left: &[u8]) -> Result<(Test, Columns, &[u8]), Stop>
-    ensures { GivesOr (λ x. ((x.0, x.1), x.2.now)) result (test columns left.now) }
+    ensures { GivesOr (λ x. ((x.0, x.1), x.2.now)) result (one_test columns left.now) }
 {
     let (column, columns, rest) = read_column(alloc, columns, left)?;
     let (check, rest) = read_check(alloc, rest)?;

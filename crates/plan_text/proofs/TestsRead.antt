@@ -8,7 +8,7 @@ use Rattle.fragment_plan.specs.declared.test.Op.TheVariants.{Equal, NotEqual, Le
 use Rattle.fragment_plan.specs.declared.test.Check.{Check}
 use Rattle.fragment_plan.specs.declared.test.Check.TheVariants.{Compare, IsNull, IsNotNull}
 use Rattle.fragment_plan.specs.declared.test.Test.{Test}
-use Rattle.fragment_plan.specs.Tests.{op_of, may_compare, compared, null_check, check, test, more_tests, tests}
+use Rattle.fragment_plan.specs.Tests.{op_of, may_compare, compared, null_check, check, one_test, more_tests, tests}
 use Rattle.plan_text.specs.Written.{spaced, op_text, literal_text, check_text, test_text, more_text, tests_text}
 use Rattle.plan_text.specs.Plain.{named, IsLiteral, IsCheck, AreChecks}
 use Rattle.plan_text.proofs.WordsRead.{IsWord, Ends, word_spaced, option_is, option_other, keyword_is}
@@ -54,8 +54,8 @@ check-ends IsNull rest = refl
 check-ends IsNotNull rest = refl
 
 test_is : (columns : List (List ℕ)) (n : ℕ) (one : Test) (places : List ℕ) (m : ℕ) (rest : List ℕ) → Cols columns → m ≤ length columns
-    → (s : Named n one.column places m) → IsCheck one.check → Ends rest → test (take n columns) (test_text columns one rest) ≡ Ok ((one, take s.next columns), rest)
-unfolding test
+    → (s : Named n one.column places m) → IsCheck one.check → Ends rest → one_test (take n columns) (test_text columns one rest) ≡ Ok ((one, take s.next columns), rest)
+unfolding one_test
 test_is columns n one places m rest cols le s is e =
     rw (column_is columns n one.column places m (check_text one.check rest) cols le s (check-ends one.check rest))
     (rw (check_is one.check rest is e) refl)
