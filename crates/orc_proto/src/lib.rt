@@ -16,6 +16,3 @@ pub use field::{Field, FieldValue};
 pub use fields::Fields;
 pub use packed::Packed;
 pub use varint::{varint_len, write_varint};
-
-#[cfg(test)]
-mod tests;

@@ -26,6 +26,3 @@ pub use stripe::{Stripe, Stripes};
 pub use stripe_footer::{StripeFooter, stream_of};
 pub use tail::{Tail, column_named};
 pub use tail_reading::read_tail;
-
-#[cfg(test)]
-mod tests;
