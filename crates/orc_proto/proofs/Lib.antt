@@ -4,3 +4,4 @@ mod Items
 mod Varints
 mod Messages
 mod Shortest
+mod OneVarint

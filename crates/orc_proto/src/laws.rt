@@ -1,5 +1,6 @@
 //! What holds of the definitions that the contracts name. Each law is a call that does nothing.
 
+ghost use Rattle.orc_proto.specs.OneVarint.{IsOneVarint};
 ghost use Rattle.orc_proto.specs.Laws.{MessagesAreRead, ReadIsMessage, EachMessageEndsOrBreaks, PackedAreRead, ReadIsPacked, EachPackedEndsOrBreaks, VarintsAreRead, OpenBytesAreTruncated, TenOpenBytesAreLong, ShortestSpells, ShortestIsShortest};
 
 /// A message is read as exactly its fields; what is read without a fault is a message with these fields;
@@ -27,4 +28,10 @@ pub fn varints_are_read()
     ensures long { TenOpenBytesAreLong }
     ensures spelled { ShortestSpells }
     ensures least { ShortestIsShortest }
+{}
+
+/// A varint of a message and one of a stream of runs are the same spelling: both readers give the same number
+/// and the same rest, or the same fault.
+pub fn varints_are_one()
+    ensures { IsOneVarint }
 {}
