@@ -6,3 +6,4 @@ pub mod Decided
 pub mod Exits
 pub mod Plans
 pub mod Steps
+pub mod MessageLaws

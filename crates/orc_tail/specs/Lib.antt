@@ -4,3 +4,4 @@ pub mod Tail
 pub mod StripeFooter
 pub mod Views
 pub mod Reads
+pub mod Laws

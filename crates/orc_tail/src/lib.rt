@@ -6,6 +6,7 @@ mod encoding;
 mod fault;
 mod footer;
 mod footer_reading;
+pub mod laws;
 mod message;
 mod postscript;
 mod reads;

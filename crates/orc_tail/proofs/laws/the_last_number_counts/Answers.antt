@@ -1,0 +1,11 @@
+use Rattle.orc_tail.proofs.MessageLaws.{stripes_are_read, streams_are_read, encodings_are_read}
+use Rattle.orc_tail.proofs.laws.the_last_number_counts.Goals as goal
+
+pub returns-clause-stripes : goal.returns-clause-stripes
+returns-clause-stripes c = stripes_are_read c.messages_are_read.ensures.read
+
+pub returns-clause-streams : goal.returns-clause-streams
+returns-clause-streams c = streams_are_read c.messages_are_read.ensures.read
+
+pub returns-clause-encodings : goal.returns-clause-encodings
+returns-clause-encodings c = encodings_are_read c.messages_are_read.ensures.read

@@ -1,0 +1,64 @@
+-- The messages of tails and stripe footers in the words of the wire format: which of a field's values counts, and which fault.
+-- Source: the protobuf wire format, "Last One Wins" and "Packed Repeated Fields".
+use Rattle.std.specs.Prelude.{◌≡◌, ℕ, List, [], ◌∷◌, ◌++◌, map, Result, Ok, Err, ◌==◌, if◌then◌else◌}
+use Rattle.orc_proto.specs.declared.fault.WireFault.{WireFault}
+use Rattle.orc_proto.specs.Message.{Content, VARINT, I64, LEN, I32, Entry, Message}
+use Rattle.orc_proto.specs.Reading.{fields_of, numbers_of}
+use Rattle.orc_proto.specs.Laws.{all_read}
+use Rattle.orc_tail.specs.declared.fault.TailFault.{TailFault}
+use Rattle.orc_tail.specs.declared.fault.TailFault.TheVariants.{Wire}
+use Rattle.orc_tail.specs.Reading.{fields_from}
+use Rattle.orc_tail.specs.Messages.{stripe_of, stream_of, encoding_of, type_of, type_field, footer_of, footer_field, stripe_footer_of, stripe_footer_field}
+
+-- the number of a field that is a varint and has this number
+abbrev pub number_in : ℕ → ℕ → Content → List ℕ
+number_in wanted number (VARINT n) = if number == wanted then n ∷ [] else []
+number_in wanted number (I64 xs) = []
+number_in wanted number (LEN xs) = []
+number_in wanted number (I32 xs) = []
+
+-- the varints of a field, in order
+abbrev pub varints_of : ℕ → List Entry → List ℕ
+varints_of wanted [] = []
+varints_of wanted (field ∷ fields) = number_in wanted field.number field.value ++ varints_of wanted fields
+
+-- the last of a list, or another number where it is empty
+abbrev pub last_or : ℕ → List ℕ → ℕ
+last_or none [] = none
+last_or none (x ∷ xs) = last_or x xs
+
+-- a number that isn't repeated: the last varint of its field, or 0
+abbrev pub singular : ℕ → List Entry → ℕ
+singular wanted fields = last_or 0 (varints_of wanted fields)
+
+abbrev pub StripesAreRead : Type 0
+StripesAreRead = (bytes : List ℕ) (fields : List Entry) → Message bytes fields
+    → stripe_of bytes ≡ Ok (record { at = singular 1 fields; index_len = singular 2 fields; body_len = singular 3 fields; footer_len = singular 4 fields; rows = singular 5 fields })
+
+abbrev pub StreamsAreRead : Type 0
+StreamsAreRead = (bytes : List ℕ) (fields : List Entry) → Message bytes fields
+    → stream_of bytes ≡ Ok (record { kind = singular 1 fields; column = singular 2 fields; len = singular 3 fields })
+
+abbrev pub EncodingsAreRead : Type 0
+EncodingsAreRead = (bytes : List ℕ) (fields : List Entry) → Message bytes fields
+    → encoding_of bytes ≡ Ok (record { kind = singular 1 fields; dictionary_size = singular 2 fields })
+
+-- The first broken message by its place: the fields in front of it were read, and then the bytes are no message, or what a
+-- field holds is refused.
+pub data FirstBroken {S : Type 0} (step : S → Entry → Result S TailFault) (start : S) (items : List (Result Entry WireFault)) (fault : TailFault) : Type 0 where
+  wire : (front : List Entry) (rest : List (Result Entry WireFault)) (state : S) (e : WireFault) → items ≡ all_read front ++ Err e ∷ rest
+      → fields_from step start (all_read front) ≡ Ok state → fault ≡ Wire e → FirstBroken step start items fault
+  inside : (front : List Entry) (field : Entry) (rest : List (Result Entry WireFault)) (state : S) → items ≡ all_read front ++ Ok field ∷ rest
+      → fields_from step start (all_read front) ≡ Ok state → step state field ≡ Err fault → FirstBroken step start items fault
+
+abbrev pub TypesBreakFirst : Type 0
+TypesBreakFirst = (bytes : List ℕ) (fault : TailFault) → type_of bytes ≡ Err fault
+    → FirstBroken type_field (record { kind = 0; subtypes = []; names = [] }) (fields_of bytes) fault
+
+abbrev pub FootersBreakFirst : Type 0
+FootersBreakFirst = (bytes : List ℕ) (fault : TailFault) → footer_of bytes ≡ Err fault
+    → FirstBroken footer_field (record { stripes = []; types = [] }) (fields_of bytes) fault
+
+abbrev pub StripeFootersBreakFirst : Type 0
+StripeFootersBreakFirst = (bytes : List ℕ) (fault : TailFault) → stripe_footer_of bytes ≡ Err fault
+    → FirstBroken stripe_footer_field (record { streams = []; encodings = [] }) (fields_of bytes) fault

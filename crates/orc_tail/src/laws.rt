@@ -1,0 +1,22 @@
+//! What holds of the messages of tails and stripe footers, in the words of the wire format. Each law is a call that
+//! does nothing.
+ghost use Rattle.orc_tail.specs.Laws.{StripesAreRead, StreamsAreRead, EncodingsAreRead, TypesBreakFirst, FootersBreakFirst, StripeFootersBreakFirst};
+
+use orc_proto::laws::messages_are_read;
+
+/// In a message a number that isn't repeated is the last varint of its field, or 0 where there is none.
+pub fn the_last_number_counts()
+    ensures stripes { StripesAreRead }
+    ensures streams { StreamsAreRead }
+    ensures encodings { EncodingsAreRead }
+{
+    messages_are_read();
+}
+
+/// A message that is refused has whole fields in front, and then the first of what breaks it by its place: a field
+/// that is no field, or one whose own bytes are refused, by that fault.
+pub fn the_first_fault_counts()
+    ensures types { TypesBreakFirst }
+    ensures footers { FootersBreakFirst }
+    ensures stripe_footers { StripeFootersBreakFirst }
+{}
