@@ -1,39 +1,10 @@
-//! The data path of a Hive LLAP daemon: reads plans, scans ORC files and prints each fragment's result.
-//!
-//! `main` makes the real objects and calls `llapd`; nothing that matters is in `main`.
+//! The program: makes the real objects and calls the data path, which does all that matters.
 #![tactic(auto)]
 
-#[cfg(test)]
-mod call_tests;
-mod column_sum;
-mod fault_words;
-mod folder;
-mod laws;
-mod line;
-mod names;
-mod plan_bytes;
-mod run;
-mod scan;
-mod status;
-mod stop;
-mod stripe_sum;
-mod sum_plan;
-mod summed_column;
-#[cfg(test)]
-mod tests;
-#[cfg(test)]
-mod told_tests;
-mod total;
-mod wide_sum;
-mod words;
-
-use folder::{FolderError, file_names};
+use data_path::{FolderError, Status, file_names, llapd, own_line, usage_line, written};
 use outside::{FolderStore, OpenGate, RealWorld, Sink, StdinSource, StdoutSink};
-use run::{llapd, written};
-use status::Status;
 use std::process::ExitCode;
 use std::{env, io};
-use words::usage_line;
 
 /// Exit statuses that are `main`'s own.
 const FOLDER_FAULT: u8 = 6;
@@ -103,12 +74,4 @@ fn run_words<K: Sink>(rt: HostRuntime, words: &[String], out: &mut K) -> u8 {
         &OpenGate,
     );
     status.code()
-}
-
-/// Writes one of `main`'s own lines, and answers its status, or that of a write that failed.
-fn own_line<K: Sink>(out: &mut K, line: &[u8], code: u8) -> u8 {
-    match out.write(line) {
-        Ok(()) => code,
-        Err(_) => Status::WriteFault.code(),
-    }
 }

@@ -1,0 +1,17 @@
+//! Tests of `data_path` over its public calls.
+#![tactic(auto)]
+
+#[cfg(test)]
+mod calls;
+#[cfg(test)]
+mod damaged;
+#[cfg(test)]
+mod files;
+#[cfg(test)]
+mod lines;
+#[cfg(test)]
+mod one_file;
+#[cfg(test)]
+mod own_lines;
+#[cfg(test)]
+mod told;
