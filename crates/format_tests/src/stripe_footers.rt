@@ -1,9 +1,12 @@
 //! Stripe footers, and each condition that refuses one.
-use crate::disk::{FILE, disk_of, file_of};
+use crate::disk::{FILE, disk_of};
 use orc_proto::WireFault;
 use orc_tail::{StreamRange, Stripe, TailFault, read_stripe_footer, stream_of};
 use outside::{Failed, FileRef};
 use std::alloc::Global;
+
+/// The worked file.
+const WHOLE: FileRef = FileRef { number: 0, len: 68 };
 
 const STRIPE: Stripe = Stripe {
     at: 3,
@@ -23,7 +26,7 @@ const STREAM: StreamRange = StreamRange {
 /// Whether the whole file's stripe has its one stream and two encodings, and its footer is one read.
 fn footer_is_read(alloc: Global) -> Option<bool> {
     let mut reader = disk_of(alloc, &FILE);
-    let footer = read_stripe_footer(alloc, &mut reader, file_of(&FILE), &STRIPE).ok()?;
+    let footer = read_stripe_footer(alloc, &mut reader, WHOLE, &STRIPE).ok()?;
     let streams = stream_of(&footer, 1, 1) == Some(STREAM) && stream_of(&footer, 0, 1).is_none();
     let encodings = footer.encodings.as_slice().len() == 2;
     Some(streams && encodings && reader.reads.as_slice() == [(6, 16)].as_slice())
