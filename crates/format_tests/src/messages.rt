@@ -272,6 +272,9 @@ fn packed_numbers_are_read_up_to_their_first_fault(rt: HostRuntime) {
 /// Whether a number is written in these bytes, which are as many as its length says, and no others change.
 fn writes(value: u64, expected: &[u8]) -> bool {
     let mut into = [7; 12];
+    if varint_len(value) > into.len() {
+        return false;
+    }
     let len = write_varint(value, &mut into);
     let (written, rest) = into.split_at(len);
     written == expected && varint_len(value) == len && rest.iter().all(|byte| *byte == 7)

@@ -2,7 +2,7 @@
 ghost use Rattle.std.specs.Prelude.{◌≡◌};
 
 use crate::disk::{FILE, disk_of, file_of};
-use orc_proto::{WireFault, write_varint};
+use orc_proto::{WireFault, varint_len, write_varint};
 use orc_tail::{Stripe, TailFault, column_named, read_tail};
 use outside::FileRef;
 use std::alloc::Global;
@@ -182,6 +182,9 @@ fn a_million_stripes_are_the_most(rt: HostRuntime) {
 /// Adds a varint.
 fn push_varint(out: &mut Vec<u8>, number: u64) -> Option<()> {
     let mut into = [0; 10];
+    if varint_len(number) > into.len() {
+        return None;
+    }
     let len = write_varint(number, &mut into);
     out.extend_from_slice(&into[..len]).ok()
 }
