@@ -34,13 +34,14 @@ impl<'a> RangeReader<RealWorld> for Disk<'a> {
 
     fn read(&mut self, _file: FileRef, at: u64, into: &mut [u8]) -> Result<(), Failed> {
         self.reads.push((at, into.len())).map_err(|_| Failed)?;
-        for (i, byte) in into.iter_mut().enumerate() {
-            *byte = *self.bytes.get(at as usize + i).ok_or(Failed)?;
-        }
+        let start = at as usize;
+        let end = start.checked_add(into.len()).ok_or(Failed)?;
+        into.copy_from_slice(self.bytes.get(start..end).ok_or(Failed)?);
         Ok(())
     }
 }
 
+/// A file of these bytes that wasn't read yet.
 pub fn disk_of(alloc: Global, bytes: &[u8]) -> Disk<'_> {
     Disk {
         bytes,
@@ -48,6 +49,7 @@ pub fn disk_of(alloc: Global, bytes: &[u8]) -> Disk<'_> {
     }
 }
 
+/// The name and the length, in bytes, of the file of these bytes.
 pub fn file_of(bytes: &[u8]) -> FileRef
     ensures { result.number ≡ 0 }
 {

@@ -23,13 +23,15 @@ const STREAM: StreamRange = StreamRange {
     len: 3,
 };
 
-/// Whether the whole file's stripe has its one stream and two encodings, and its footer is one read.
+/// Whether the whole file's stripe has its one stream, none of another kind or column, and two encodings, and its footer
+/// is one read.
 fn footer_is_read(alloc: Global) -> Option<bool> {
     let mut reader = disk_of(alloc, &FILE);
     let footer = read_stripe_footer(alloc, &mut reader, WHOLE, &STRIPE).ok()?;
-    let streams = stream_of(&footer, 1, 1) == Some(STREAM) && stream_of(&footer, 0, 1).is_none();
+    let streams = stream_of(&footer, 1, 1) == Some(STREAM);
+    let no_others = stream_of(&footer, 0, 1).is_none() && stream_of(&footer, 1, 0).is_none();
     let encodings = footer.encodings.as_slice().len() == 2;
-    Some(streams && encodings && reader.reads.as_slice() == [(6, 16)].as_slice())
+    Some(streams && no_others && encodings && reader.reads.as_slice() == [(6, 16)].as_slice())
 }
 
 #[test]
