@@ -7,3 +7,5 @@ pub mod Exits
 pub mod Plans
 pub mod Steps
 pub mod MessageLaws
+pub mod PostScriptLaws
+pub mod TypeLaws

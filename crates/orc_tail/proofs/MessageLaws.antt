@@ -1,5 +1,5 @@
 -- What folds over the fields of a message give, and where they break.
-use Rattle.std.proofs.Common.{◌≡◌, ℕ, Bool, true, false, List, [], ◌∷◌, ◌++◌, Result, Ok, Err, refl, sym, ap, subst, ◌∙◌, arith}
+use Rattle.std.proofs.Common.{◌≡◌, ℕ, Bool, true, false, List, [], ◌∷◌, ◌++◌, Result, Ok, Err, refl, ap, ◌∙◌, arith}
 use Rattle.std.specs.Prelude.{◌==◌, if◌then◌else◌}
 use Rattle.orc_proto.specs.declared.fault.WireFault.{WireFault}
 use Rattle.orc_proto.specs.Message.{Content, VARINT, I64, LEN, I32, Entry}
@@ -16,7 +16,7 @@ use Rattle.orc_proto.specs.Reading.{fields_of}
 use Rattle.orc_tail.specs.Laws.{number_in, varints_of, last_or, FirstBroken, StripesAreRead, StreamsAreRead, EncodingsAreRead, TypesBreakFirst, FootersBreakFirst, StripeFootersBreakFirst}
 use Rattle.orc_tail.specs.Laws.FirstBroken.{wire, inside}
 
-abbrev read_as : (S : Type 0) → S → Result S TailFault
+abbrev pub read_as : (S : Type 0) → S → Result S TailFault
 read_as S s = Ok s
 
 abbrev refused_by : (S : Type 0) → TailFault → Result S TailFault
@@ -43,7 +43,7 @@ rows_step : (s : Stripe) (number n : ℕ) → (stripe_number s number n).rows �
 rows_step s number n = grind arith
 
 -- one number of a message after a field
-field_step : {M : Type 0} (value : M → ℕ → Content → M) (get : M → ℕ) (wanted : ℕ)
+pub field_step : {M : Type 0} (value : M → ℕ → Content → M) (get : M → ℕ) (wanted : ℕ)
     → ((s : M) (number n : ℕ) → get (value s number (VARINT n)) ≡ (if number == wanted then n else get s))
     → ((s : M) (number : ℕ) (xs : List ℕ) → get (value s number (LEN xs)) ≡ get s)
     → ((s : M) (number : ℕ) (xs : List ℕ) → get (value s number (I64 xs)) ≡ get s)

@@ -1,14 +1,14 @@
 -- The messages of tails and stripe footers in the words of the wire format: which of a field's values counts, and which fault.
 -- Source: the protobuf wire format, "Last One Wins" and "Packed Repeated Fields".
-use Rattle.std.specs.Prelude.{◌≡◌, ℕ, List, [], ◌∷◌, ◌++◌, map, Result, Ok, Err, ◌==◌, if◌then◌else◌}
+use Rattle.std.specs.Prelude.{◌≡◌, ℕ, Bool, true, false, List, [], ◌∷◌, ◌++◌, Result, Ok, Err, ◌==◌, if◌then◌else◌, bytes_eq}
 use Rattle.orc_proto.specs.declared.fault.WireFault.{WireFault}
-use Rattle.orc_proto.specs.Message.{Content, VARINT, I64, LEN, I32, Entry, Message}
-use Rattle.orc_proto.specs.Reading.{fields_of, numbers_of}
+use Rattle.orc_proto.specs.Message.{Content, VARINT, I64, LEN, I32, Entry, Message, PackedNumbers}
+use Rattle.orc_proto.specs.Reading.{fields_of}
 use Rattle.orc_proto.specs.Laws.{all_read}
 use Rattle.orc_tail.specs.declared.fault.TailFault.{TailFault}
 use Rattle.orc_tail.specs.declared.fault.TailFault.TheVariants.{Wire}
 use Rattle.orc_tail.specs.Reading.{fields_from}
-use Rattle.orc_tail.specs.Messages.{stripe_of, stream_of, encoding_of, type_of, type_field, footer_of, footer_field, stripe_footer_of, stripe_footer_field}
+use Rattle.orc_tail.specs.Messages.{magic, postscript_of, stripe_of, stream_of, encoding_of, type_of, type_field, footer_of, footer_field, stripe_footer_of, stripe_footer_field}
 
 -- the number of a field that is a varint and has this number
 abbrev pub number_in : ℕ → ℕ → Content → List ℕ
@@ -22,8 +22,8 @@ abbrev pub varints_of : ℕ → List Entry → List ℕ
 varints_of wanted [] = []
 varints_of wanted (field ∷ fields) = number_in wanted field.number field.value ++ varints_of wanted fields
 
--- the last of a list, or another number where it is empty
-abbrev pub last_or : ℕ → List ℕ → ℕ
+-- the last of a list, or another where it is empty
+abbrev pub last_or : {X : Type 0} → X → List X → X
 last_or none [] = none
 last_or none (x ∷ xs) = last_or x xs
 
@@ -31,9 +31,60 @@ last_or none (x ∷ xs) = last_or x xs
 abbrev pub singular : ℕ → List Entry → ℕ
 singular wanted fields = last_or 0 (varints_of wanted fields)
 
+-- the bytes of a field that is bytes and has this number
+abbrev pub bytes_in : ℕ → ℕ → Content → List (List ℕ)
+bytes_in wanted number (LEN xs) = if number == wanted then xs ∷ [] else []
+bytes_in wanted number (VARINT n) = []
+bytes_in wanted number (I64 xs) = []
+bytes_in wanted number (I32 xs) = []
+
+-- the bytes of a field each time that it stands there, in order
+abbrev pub bytes_of : ℕ → List Entry → List (List ℕ)
+bytes_of wanted [] = []
+bytes_of wanted (field ∷ fields) = bytes_in wanted field.number field.value ++ bytes_of wanted fields
+
+-- the numbers that bytes pack, where they are of the field
+abbrev pub Packs : Bool → List ℕ → List ℕ → Type 0
+Packs true xs numbers = PackedNumbers xs numbers
+Packs false xs numbers = numbers ≡ []
+
+-- what a field gives to a repeated number: its varint, or the numbers that it packs; another field gives none
+abbrev pub GivesNumbers : ℕ → ℕ → Content → List ℕ → Type 0
+GivesNumbers wanted number (VARINT n) numbers = numbers ≡ number_in wanted number (VARINT n)
+GivesNumbers wanted number (LEN xs) numbers = Packs (number == wanted) xs numbers
+GivesNumbers wanted number (I64 xs) numbers = numbers ≡ []
+GivesNumbers wanted number (I32 xs) numbers = numbers ≡ []
+
+-- a repeated number: what its fields give, packed or not, joined in order
+abbrev pub Repeated : ℕ → List Entry → List ℕ → Type 0
+Repeated wanted [] numbers = numbers ≡ []
+Repeated wanted (field ∷ fields) numbers =
+    (first : List ℕ) × (rest : List ℕ)
+    × GivesNumbers wanted field.number field.value first × Repeated wanted fields rest × (numbers ≡ first ++ rest)
+
+-- A PostScript's magic is the last bytes of its field, or none.
+abbrev pub PostScriptsAreRead : Type 0
+PostScriptsAreRead = (bytes : List ℕ) (fields : List Entry) → Message bytes fields
+    → postscript_of bytes ≡ Ok (record {
+      footer_length = singular 1 fields;
+      compression = singular 2 fields;
+      is_orc = bytes_eq (last_or [] (bytes_of 8000 fields)) magic;
+    })
+
+-- A type's kind isn't repeated; its subtypes and its names are.
+abbrev pub TypesAreRead : Type 0
+TypesAreRead = (bytes : List ℕ) (fields : List Entry) (numbers : List ℕ) → Message bytes fields → Repeated 2 fields numbers
+    → type_of bytes ≡ Ok (record { kind = singular 1 fields; subtypes = numbers; names = bytes_of 3 fields })
+
 abbrev pub StripesAreRead : Type 0
 StripesAreRead = (bytes : List ℕ) (fields : List Entry) → Message bytes fields
-    → stripe_of bytes ≡ Ok (record { at = singular 1 fields; index_len = singular 2 fields; body_len = singular 3 fields; footer_len = singular 4 fields; rows = singular 5 fields })
+    → stripe_of bytes ≡ Ok (record {
+      at = singular 1 fields;
+      index_len = singular 2 fields;
+      body_len = singular 3 fields;
+      footer_len = singular 4 fields;
+      rows = singular 5 fields;
+    })
 
 abbrev pub StreamsAreRead : Type 0
 StreamsAreRead = (bytes : List ℕ) (fields : List Entry) → Message bytes fields

@@ -1,4 +1,5 @@
 use Rattle.orc_tail.proofs.MessageLaws.{stripes_are_read, streams_are_read, encodings_are_read}
+use Rattle.orc_tail.proofs.PostScriptLaws.{postscripts_are_read}
 use Rattle.orc_tail.proofs.laws.the_last_number_counts.Goals as goal
 
 pub returns-clause-stripes : goal.returns-clause-stripes
@@ -9,3 +10,6 @@ returns-clause-streams c = streams_are_read c.messages_are_read.ensures.read
 
 pub returns-clause-encodings : goal.returns-clause-encodings
 returns-clause-encodings c = encodings_are_read c.messages_are_read.ensures.read
+
+pub returns-clause-postscripts : goal.returns-clause-postscripts
+returns-clause-postscripts c = postscripts_are_read c.messages_are_read.ensures.read
