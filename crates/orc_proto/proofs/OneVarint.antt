@@ -1,12 +1,11 @@
 -- Both readers of varints go the same way, byte by byte.
-use Rattle.std.proofs.Common.{◌≡◌, ℕ, zero, suc, ◌+◌, ◌*◌, ◌%◌, ◌^◌, Bool, true, false, List, [], ◌∷◌, Result, Ok, Err, refl, ap}
+use Rattle.std.proofs.Common.{ℕ, zero, suc, ◌+◌, ◌*◌, ◌%◌, ◌^◌, Bool, true, false, List, [], ◌∷◌, Result, Ok, Err, refl, ap}
 use Rattle.std.specs.Prelude.{nat_lt, if◌then◌else◌}
 use Rattle.outside.specs.declared.run_fault.RunFault.{RunFault}
 use Rattle.outside.specs.declared.run_fault.RunFault.TheVariants.{StreamEnds, LongVarint as TooLong, PatchOutOfRun, PatchTooWide, Read}
 use Rattle.outside.specs.Reading.{go_on, value}
-use Rattle.outside.specs.Varint.{groups_within, varint}
+use Rattle.outside.specs.Varint.{groups_within}
 use Rattle.orc_proto.specs.declared.fault.WireFault.{WireFault}
-use Rattle.orc_proto.specs.declared.fault.WireFault.TheVariants.{Truncated, LongVarint}
 use Rattle.orc_proto.specs.Reading.{◌>>=◌, groups_at, varint_at}
 use Rattle.orc_proto.specs.OneVarint.{IsSame, IsOneVarint}
 
