@@ -27,7 +27,8 @@ pub fn owners_are_parts()
     pool_model::laws::owners_are_parts();
 }
 
-/// No step from a lawful pool changes a buffer that another seat has for itself, or takes another seat's grant away.
+/// No step from a lawful pool changes a buffer that another seat has for itself, takes another seat's grant away, or ends
+/// another seat's pin: the seat still holds the buffer, which is live where it was, with its key and its cells.
 pub fn others_are_spared()
     ensures { OthersAreSpared }
 {

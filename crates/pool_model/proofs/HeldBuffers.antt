@@ -15,10 +15,10 @@ use Rattle.pool_model.specs.declared.step.Step.TheVariants.{Grant, Ungrant, Open
 use Rattle.pool_model.specs.Block.{Within}
 use Rattle.pool_model.specs.Buffer.{pinned, unpinned}
 use Rattle.pool_model.specs.Lawful.{IsLawful, IsLawfulBuffer, HoldersFit}
-use Rattle.pool_model.specs.Laws.{IsHeld, SparesHeld, KeepsHeld, StaysAs}
+use Rattle.pool_model.specs.Laws.{IsHeld, SparesHeld, KeepsHeld, StaysAs, maker_of}
 use Rattle.pool_model.specs.Parts.{Has, buffer_block, buffer_target, granted_block}
 use Rattle.pool_model.specs.Pool.{buffer_at, grant_at, block_of, HasGrant}
-use Rattle.pool_model.specs.Step.{Needs}
+use Rattle.pool_model.specs.Step.{Needs, after}
 use Rattle.pool_model.proofs.Owners.{header_below}
 use Rattle.pool_model.proofs.PoolSteps.{buffer_lawful, target_of}
 use Rattle.pool_model.proofs.Options.{value_of, at_value, some_and}
@@ -138,25 +138,25 @@ step_spares w (Unpin seat other) p l needs header m held a takes = takes
 
 -- a held buffer stays as it is
 
-stays : (w : Setting) (p : PlainPool) (header : ℕ) (b : Buffer) → IsLawful w p → buffer_at p header ≡ Some b → b.holders ≢ [] → StaysAs b b
+pub stays : (w : Setting) (p : PlainPool) (header : ℕ) (b : Buffer) → IsLawful w p → buffer_at p header ≡ Some b → b.holders ≢ [] → StaysAs b b
 stays w p header b l e held =
     let good = buffer_lawful w p header b l e in
     record { live = live_if_held b.mode b.holders good.holders held; same_block = refl; same_key = refl; same_cells = refl }
 
 -- another header changes
-other_changes : (p : PlainPool) (header other : ℕ) (b : Buffer) (o : Option Buffer) → buffer_at p header ≡ Some b → StaysAs b b → header ≢ other → IsSomeAnd (get_or (set p.buffers other o) header None) (StaysAs b)
-other_changes p header other b o e s ne =
-    rw (get_or-set_other p.buffers other header o None ne) (some_and (StaysAs b) (buffer_at p header) b e s)
+other_changes : (p : PlainPool) (header other : ℕ) (b : Buffer) (Q : Buffer → Type 0) (o : Option Buffer) → buffer_at p header ≡ Some b → Q b → header ≢ other → IsSomeAnd (get_or (set p.buffers other o) header None) Q
+other_changes p header other b Q o e q ne =
+    rw (get_or-set_other p.buffers other header o None ne) (some_and Q (buffer_at p header) b e q)
 
 -- the holders alone may change
-holders_change : (p : PlainPool) (header other : ℕ) (b : Buffer) (change : Buffer → Buffer) → buffer_at p header ≡ Some b → StaysAs b b → StaysAs b (change b) → IsSomeAnd (get_or (set p.buffers other (option_map change (buffer_at p other))) header None) (StaysAs b)
-holders_change p header other b change e s t =
+holders_change : (p : PlainPool) (header other : ℕ) (b : Buffer) (Q : Buffer → Type 0) (change : Buffer → Buffer) → buffer_at p header ≡ Some b → Q b → Q (change b) → IsSomeAnd (get_or (set p.buffers other (option_map change (buffer_at p other))) header None) Q
+holders_change p header other b Q change e q changed =
     elim (cases_eq header other) [
-      | inr ne ↦ other_changes p header other b _ e s ne
+      | inr ne ↦ other_changes p header other b Q _ e q ne
       | inl same ↦
           let below = header_below p header b e in
           let here = get_or-set_same p.buffers header (option_map change (buffer_at p header)) None below in
-          rw (← same) (some_and (StaysAs b) _ (change b) (here ∙ ap (option_map change) e) t)
+          rw (← same) (some_and Q _ (change b) (here ∙ ap (option_map change) e) changed)
     ]
 
 unheld_new : (w : Setting) (p : PlainPool) (header : ℕ) (P : Buffer → Type 0) → IsLawful w p → ((b : Buffer) → P b → b.mode ≡ New) → IsSomeAnd (buffer_at p header) P → IsUnheld p header
@@ -170,54 +170,57 @@ apart_released p header other b e none same =
     let gone : buffer_at p header ≡ None = subst P (sym same) none in
     cc
 
-pub step_keeps_held : (w : Setting) (s : Step) (p : PlainPool) → IsLawful w p → Needs w s p → KeepsHeld s p
+-- what is said of a held buffer, and stays if the step's maker pins or unpins it, is said of it after the step
+pub step_keeps : (w : Setting) (s : Step) (p : PlainPool) → IsLawful w p → Needs w s p → (header : ℕ) (b : Buffer) → buffer_at p header ≡ Some b → b.holders ≢ [] → (Q : Buffer → Type 0) → Q b → Q (pinned (maker_of s) b) → Q (unpinned (maker_of s) b) → IsSomeAnd (buffer_at (after s p) header) Q
 unfolding taken_header
-step_keeps_held w (Grant seat given) p l needs header b e held =
-    some_and (StaysAs b) (buffer_at p header) b e (stays w p header b l e held)
-step_keeps_held w (Ungrant seat given) p l needs header b e held =
-    some_and (StaysAs b) (buffer_at p header) b e (stays w p header b l e held)
-step_keeps_held w (Open seat other given cells) p l needs header b e held =
-    other_changes p header other b _ e (stays w p header b l e held) (apart_released p header other b e needs.0.1)
-step_keeps_held w (Name seat other key) p l needs header b e held =
-    other_changes p header other b _ e (stays w p header b l e held)
+step_keeps w (Grant seat given) p l needs header b e held Q q more less =
+    some_and Q (buffer_at p header) b e q
+step_keeps w (Ungrant seat given) p l needs header b e held Q q more less =
+    some_and Q (buffer_at p header) b e q
+step_keeps w (Open seat other given cells) p l needs header b e held Q q more less =
+    other_changes p header other b Q _ e q (apart_released p header other b e needs.0.1)
+step_keeps w (Name seat other key) p l needs header b e held Q q more less =
+    other_changes p header other b Q _ e q
     (apart p header other b e held (unheld_new w p other _ l (λ b n. n.0) needs))
-step_keeps_held w (Fill seat other value) p l needs header b e held =
-    other_changes p header other b _ e (stays w p header b l e held)
+step_keeps w (Fill seat other value) p l needs header b e held Q q more less =
+    other_changes p header other b Q _ e q
     (apart p header other b e held (unheld_new w p other _ l (λ b n. n.0) needs))
-step_keeps_held w (Publish seat other) p l needs header b e held =
-    other_changes p header other b _ e (stays w p header b l e held)
+step_keeps w (Publish seat other) p l needs header b e held Q q more less =
+    other_changes p header other b Q _ e q
     (apart p header other b e held (unheld_new w p other _ l (λ b n. n.0) needs))
-step_keeps_held w (Pin seat other) p l needs header b e held =
-    let s = stays w p header b l e held in
-    holders_change p header other b (pinned seat) e s
-    (record { live = s.live; same_block = refl; same_key = refl; same_cells = refl })
-step_keeps_held w (Unpin seat other) p l needs header b e held =
-    let s = stays w p header b l e held in
-    holders_change p header other b (unpinned seat) e s
-    (record { live = s.live; same_block = refl; same_key = refl; same_cells = refl })
-step_keeps_held w (BeginEvict seat other) p l needs header b e held =
-    other_changes p header other b _ e (stays w p header b l e held)
+step_keeps w (Pin seat other) p l needs header b e held Q q more less =
+    holders_change p header other b Q (pinned seat) e q more
+step_keeps w (Unpin seat other) p l needs header b e held Q q more less =
+    holders_change p header other b Q (unpinned seat) e q less
+step_keeps w (BeginEvict seat other) p l needs header b e held Q q more less =
+    other_changes p header other b Q _ e q
     (apart p header other b e held (taken_unheld w (BeginEvict seat other) p l needs))
-step_keeps_held w (Release seat other) p l needs header b e held =
+step_keeps w (Release seat other) p l needs header b e held Q q more less =
     let found = value_of _ (buffer_at p other) needs in
     rw found.1
-    (other_changes p header other b None e (stays w p header b l e held)
+    (other_changes p header other b Q None e q
     (apart p header other b e held (taken_unheld w (Release seat other) p l needs)))
-step_keeps_held w (BeginMove seat other target cells) p l needs header b e held =
-    other_changes p header other b _ e (stays w p header b l e held)
+step_keeps w (BeginMove seat other target cells) p l needs header b e held Q q more less =
+    other_changes p header other b Q _ e q
     (apart p header other b e held (taken_unheld w (BeginMove seat other target cells) p l needs))
-step_keeps_held w (Copy seat other) p l needs header b e held =
-    other_changes p header other b _ e (stays w p header b l e held)
+step_keeps w (Copy seat other) p l needs header b e held Q q more less =
+    other_changes p header other b Q _ e q
     (apart p header other b e held (taken_unheld w (Copy seat other) p l needs))
-step_keeps_held w (Settle seat other) p l needs header b e held =
+step_keeps w (Settle seat other) p l needs header b e held Q q more less =
     let found = value_of _ (buffer_at p other) needs in
     let t = target_of w (length p.grants) found.0 (buffer_lawful w p other found.0 l found.1) found.2.0 in
     rw (found.1, t.1)
-    (other_changes p header other b _ e (stays w p header b l e held)
+    (other_changes p header other b Q _ e q
     (apart p header other b e held (taken_unheld w (Settle seat other) p l needs)))
-step_keeps_held w (Cancel seat other) p l needs header b e held =
+step_keeps w (Cancel seat other) p l needs header b e held Q q more less =
     let found = value_of _ (buffer_at p other) needs in
     let t = target_of w (length p.grants) found.0 (buffer_lawful w p other found.0 l found.1) found.2.0 in
     rw (found.1, t.1)
-    (other_changes p header other b _ e (stays w p header b l e held)
+    (other_changes p header other b Q _ e q
     (apart p header other b e held (taken_unheld w (Cancel seat other) p l needs)))
+
+pub step_keeps_held : (w : Setting) (s : Step) (p : PlainPool) → IsLawful w p → Needs w s p → KeepsHeld s p
+step_keeps_held w s p l needs header b e held =
+    let q = stays w p header b l e held in
+    let still : (new : List ℕ) → StaysAs b (record b { holders = new }) = λ new. record { live = q.live; same_block = refl; same_key = refl; same_cells = refl } in
+    step_keeps w s p l needs header b e held (StaysAs b) q (still _) (still _)

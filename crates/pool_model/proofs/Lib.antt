@@ -8,5 +8,6 @@ pub mod PoolSteps
 pub mod ProgramSteps
 pub mod PartsAreOwners
 pub mod HeldBuffers
+pub mod Pins
 pub mod Runs
 mod Others

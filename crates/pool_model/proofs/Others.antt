@@ -1,5 +1,5 @@
 -- No step changes what another seat has for itself.
-use Rattle.std.proofs.Common.{◌≡◌, ◌≢◌, ℕ, List, [], length, get_or, set, ap, sym, subst, ◌∙◌, arith}
+use Rattle.std.proofs.Common.{◌≡◌, ◌≢◌, ℕ, length, get_or, set, ap, sym, subst, ◌∙◌, arith}
 use Rattle.std.specs.Prelude.{Option, None, Some, IsSomeAnd}
 use Rattle.std.proofs.lemmas.List.{get_or-set_other}
 use Rattle.std.proofs.lemmas.Nat.{pow_pos}
@@ -13,7 +13,7 @@ use Rattle.pool_model.specs.declared.setting.Setting.{Setting}
 use Rattle.pool_model.specs.declared.step.Step.{Step}
 use Rattle.pool_model.specs.declared.step.Step.TheVariants.{Grant, Ungrant, Open, Name, Fill, Publish, Pin, Unpin, BeginEvict, Release, BeginMove, Copy, Settle, Cancel}
 use Rattle.pool_model.specs.Block.{Within}
-use Rattle.pool_model.specs.Buffer.{Holds, CanUnpin}
+use Rattle.pool_model.specs.Buffer.{CanUnpin}
 use Rattle.pool_model.specs.Lawful.{IsLawful, IsLawfulBuffer}
 use Rattle.pool_model.specs.Laws.{SparesOthers}
 use Rattle.pool_model.specs.Parts.{Has, buffer_block, buffer_target, granted_block}
@@ -23,6 +23,7 @@ use Rattle.pool_model.proofs.HeldBuffers.{live_if_held, apart_released}
 use Rattle.pool_model.proofs.PoolSteps.{buffer_lawful, target_of}
 use Rattle.pool_model.proofs.Options.{value_of, some_and}
 use Rattle.pool_model.proofs.PartsAreOwners.{owners-part, owned_once}
+use Rattle.pool_model.proofs.Pins.{held_some, step_spares_pins}
 
 claimed_apart : (p : PlainPool) (header other seat : ℕ) (b : Buffer) (P : Buffer → Type 0) → buffer_at p header ≡ Some b → b.claimant ≡ Some seat → IsSomeAnd (buffer_at p other) P → ((x : Buffer) → buffer_at p other ≡ Some x → P x → x.claimant ≡ Some seat → ⊥) → header ≢ other
 claimed_apart p header other seat b P e c needs why same =
@@ -50,9 +51,6 @@ kept p header other b o e ne = get_or-set_other p.buffers other header o None ne
 
 kept_grant : (p : PlainPool) (place other : ℕ) (g : GrantedBlock) (o : Option GrantedBlock) → grant_at p place ≡ Some g → place ≢ other → get_or (set p.grants other o) place None ≡ Some g
 kept_grant p place other g o e ne = get_or-set_other p.grants other place o None ne ∙ e
-
-held_some : (seat : ℕ) (holders : List ℕ) → Holds seat holders → holders ≢ []
-held_some seat holders h e = let P : List ℕ → Type 0 = λ l. Holds seat l in grind (arith, subst P e h)
 
 first_within : (b : Block) → Within b b.place
 first_within b = (omega arith, omega (arith, pow_pos b.order))
@@ -94,63 +92,75 @@ step_spares_others w (Grant maker given) p l needs =
     record {
       claims = λ header seat b e c ne. e;
       grants = λ place g e ne. kept_grant p place given.place g _ e (free_apart p place g given e needs.1);
+      holds = step_spares_pins w (Grant maker given) p l needs;
     }
 step_spares_others w (Ungrant maker given) p l needs =
     record {
       claims = λ header seat b e c ne. e;
       grants = λ place g e ne. kept_grant p place given.place g _ e (own_apart p place maker g given e ne needs);
+      holds = step_spares_pins w (Ungrant maker given) p l needs;
     }
 step_spares_others w (Open maker other given cells) p l needs =
     record {
       claims = λ header seat b e c ne. kept p header other b _ e (apart_released p header other b e needs.0.1);
       grants = λ place g e ne. kept_grant p place given.place g _ e (own_apart p place maker g given e ne needs.1);
+      holds = step_spares_pins w (Open maker other given cells) p l needs;
     }
 step_spares_others w (Name maker other key) p l needs =
     record {
       claims = λ header seat b e c ne. kept p header other b _ e (claimed_apart p header other seat b _ e c needs (λ x at can own. another seat maker x ne can.1 own));
       grants = λ place g e ne. e;
+      holds = step_spares_pins w (Name maker other key) p l needs;
     }
 step_spares_others w (Fill maker other value) p l needs =
     record {
       claims = λ header seat b e c ne. kept p header other b _ e (claimed_apart p header other seat b _ e c needs (λ x at can own. another seat maker x ne can.1 own));
       grants = λ place g e ne. e;
+      holds = step_spares_pins w (Fill maker other value) p l needs;
     }
 step_spares_others w (Publish maker other) p l needs =
     record {
       claims = λ header seat b e c ne. kept p header other b _ e (claimed_apart p header other seat b _ e c needs (λ x at can own. another seat maker x ne can.1 own));
       grants = λ place g e ne. e;
+      holds = step_spares_pins w (Publish maker other) p l needs;
     }
 step_spares_others w (Pin maker other) p l needs =
     record {
       claims = λ header seat b e c ne. kept p header other b _ e (claimed_apart p header other seat b _ e c needs (λ x at can own. unclaimed w (length p.grants) seat x (buffer_lawful w p other x l at) can.0 own));
       grants = λ place g e ne. e;
+      holds = step_spares_pins w (Pin maker other) p l needs;
     }
 step_spares_others w (Unpin maker other) p l needs =
     record {
       claims = λ header seat b e c ne. kept p header other b _ e (claimed_apart p header other seat b (CanUnpin maker) e c needs
           (λ x at can own. let good = buffer_lawful w p other x l at in unclaimed w (length p.grants) seat x good (live_if_held x.mode x.holders good.holders (held_some maker x.holders can)) own));
       grants = λ place g e ne. e;
+      holds = step_spares_pins w (Unpin maker other) p l needs;
     }
 step_spares_others w (BeginEvict maker other) p l needs =
     record {
       claims = λ header seat b e c ne. kept p header other b _ e (claimed_apart p header other seat b _ e c needs (λ x at can own. unclaimed w (length p.grants) seat x (buffer_lawful w p other x l at) can.0 own));
       grants = λ place g e ne. e;
+      holds = step_spares_pins w (BeginEvict maker other) p l needs;
     }
 step_spares_others w (Release maker other) p l needs =
     let found = value_of _ (buffer_at p other) needs in
     record {
       claims = λ header seat b e c ne. rw found.1 (kept p header other b None e (claimed_apart p header other seat b _ e c needs (λ x at can own. another seat maker x ne can.1 own)));
       grants = λ place g e ne. rw found.1 (kept_grant p place found.0.block.place g _ e (block_apart w p place other g found.0 l e found.1));
+      holds = step_spares_pins w (Release maker other) p l needs;
     }
 step_spares_others w (BeginMove maker other target cells) p l needs =
     record {
       claims = λ header seat b e c ne. kept p header other b _ e (claimed_apart p header other seat b _ e c needs.0 (λ x at can own. unclaimed w (length p.grants) seat x (buffer_lawful w p other x l at) can.0.0 own));
       grants = λ place g e ne. kept_grant p place target.place g _ e (own_apart p place maker g target e ne needs.1);
+      holds = step_spares_pins w (BeginMove maker other target cells) p l needs;
     }
 step_spares_others w (Copy maker other) p l needs =
     record {
       claims = λ header seat b e c ne. kept p header other b _ e (claimed_apart p header other seat b _ e c needs (λ x at can own. another seat maker x ne can.1 own));
       grants = λ place g e ne. e;
+      holds = step_spares_pins w (Copy maker other) p l needs;
     }
 step_spares_others w (Settle maker other) p l needs =
     let found = value_of _ (buffer_at p other) needs in
@@ -158,6 +168,7 @@ step_spares_others w (Settle maker other) p l needs =
     record {
       claims = λ header seat b e c ne. rw (found.1, t.1) (kept p header other b _ e (claimed_apart p header other seat b _ e c needs (λ x at can own. another seat maker x ne can.1 own)));
       grants = λ place g e ne. rw (found.1, t.1) (kept_grant p place found.0.block.place g _ e (block_apart w p place other g found.0 l e found.1));
+      holds = step_spares_pins w (Settle maker other) p l needs;
     }
 step_spares_others w (Cancel maker other) p l needs =
     let found = value_of _ (buffer_at p other) needs in
@@ -165,4 +176,5 @@ step_spares_others w (Cancel maker other) p l needs =
     record {
       claims = λ header seat b e c ne. rw (found.1, t.1) (kept p header other b _ e (claimed_apart p header other seat b _ e c needs (λ x at can own. another seat maker x ne can.1 own)));
       grants = λ place g e ne. rw (found.1, t.1) (kept_grant p place t.0.block.place g _ e (target_apart w p place other g found.0 t.0 l e found.1 t.1));
+      holds = step_spares_pins w (Cancel maker other) p l needs;
     }

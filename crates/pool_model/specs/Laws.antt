@@ -7,6 +7,7 @@ use Rattle.pool_model.specs.declared.setting.Setting.{Setting}
 use Rattle.pool_model.specs.declared.step.Step.{Step}
 use Rattle.pool_model.specs.declared.step.Step.TheVariants.{Grant, Ungrant, Open, Name, Fill, Publish, Pin, Unpin, BeginEvict, Release, BeginMove, Copy, Settle, Cancel}
 use Rattle.pool_model.specs.Block.{Within}
+use Rattle.pool_model.specs.Buffer.{Holds}
 use Rattle.pool_model.specs.Lawful.{IsLawful}
 use Rattle.pool_model.specs.Parts.{Has, buffer_block, buffer_target, IsOwnedOnce, OwnersCountParts}
 use Rattle.pool_model.specs.Pool.{buffer_at, grant_at, empty_pool}
@@ -77,10 +78,17 @@ maker_of (Copy seat header) = seat
 maker_of (Settle seat header) = seat
 maker_of (Cancel seat header) = seat
 
--- no step changes a buffer that another seat has for itself, or takes another seat's grant away
+-- the seat is still a holder of the buffer, which is as it was but for its other holders
+pub record StaysHeldBy (seat : ℕ) (old new : Buffer) : Type 0 where
+  pub held : Holds seat new.holders
+  pub stays : StaysAs old new
+
+-- no step changes a buffer that another seat has for itself, takes another seat's grant away, or ends another seat's
+-- pin, and a buffer that another seat has pinned stays as it is, but for its other holders
 pub record SparesOthers (s : Step) (p : PlainPool) : Type 0 where
   pub claims : (header seat : ℕ) (b : Buffer) → buffer_at p header ≡ Some b → b.claimant ≡ Some seat → seat ≢ maker_of s → buffer_at (after s p) header ≡ Some b
   pub grants : (place : ℕ) (g : GrantedBlock) → grant_at p place ≡ Some g → g.owner ≢ maker_of s → grant_at (after s p) place ≡ Some g
+  pub holds : (header seat : ℕ) (b : Buffer) → buffer_at p header ≡ Some b → Holds seat b.holders → seat ≢ maker_of s → IsSomeAnd (buffer_at (after s p) header) (StaysHeldBy seat b)
 
 -- whatever the lawful pool and the step
 abbrev pub OthersAreSpared : Type 0
