@@ -1,113 +1,143 @@
-//! Files of several stripes, of none, and with nulls.
-use crate::one_file::{answers, sum_of};
-use data_path::Status;
+//! Files in memory, and what a sum of the column `x` of each writes.
+use crate::one_file::sums_to;
+use std::alloc::Global;
 
-/// The file of 100 rows, with its stripe listed twice. The stripes' entries stand at 22 and 34.
-const TWICE: [u8; 80] = [
-    79, 82, 67, 97, 0, 7, 10, 6, 8, 1, 16, 1, 24, 3, 18, 2, 8, 0, 18, 2, 8, 0, 26, 10, 8, 3, 16, 0,
-    24, 3, 32, 16, 40, 100, 26, 10, 8, 3, 16, 0, 24, 3, 32, 16, 40, 100, 34, 8, 8, 12, 18, 1, 1,
-    26, 1, 120, 34, 2, 8, 4, 48, 100, 8, 40, 16, 0, 34, 2, 0, 12, 40, 0, 130, 244, 3, 3, 79, 82,
-    67, 17,
-];
+/// Files of one stripe of a LONG column with runs of version 1, two hexadecimal digits a byte: the header and the values; the stripe's
+/// footer and the file's; the postscript. Behind a colon stands what is written. The last but two is no ORC file.
+const VERSION_ONE: &str = "\
+4F5243610007\
+    0A0608011001180312020800120208001A0A080310001803201028642208080C1201011A0178220208043064\
+    081C10002202000C280082F403034F524311 : s sum -400
+4F524361FF64\
+    0A0608011001180312020800120208001A0A080310001803201028642208080C1201011A0178220208043064\
+    081C10002202000C280082F403034F524311 : s sum 50
+4F5243FDFEFFFFFFFFFFFFFFFF010201\
+    0A0608011001180D12020800120208001A0A08031000180D201028032208080C1201011A0178220208043003\
+    081C10002202000C280082F403034F524311 : s sum 9223372036854775807
+4F5243FEFEFFFFFFFFFFFFFFFF0102\
+    0A0608011001180C12020800120208001A0A08031000180C201028022208080C1201011A0178220208043002\
+    081C10002202000C280082F403034F524311 : s failed overflow
+4F5243610007\
+    0A0608011001180312020800120208001A0A080310001803201028642208080C1201011A0178220208043064\
+    081C10012202000C280082F403034F524311 : s failed compressed 1
+4F5243620007\
+    0A0608011001180312020800120208001A0A080310001803201028642208080C1201011A0178220208043064\
+    081C10002202000C280082F403034F524311 : s sum -400
+0000 : s failed broken tail not orc
+4F5243600007\
+    0A0608011001180312020800120208001A0A080310001803201028642208080C1201011A0178220208043064\
+    081C10002202000C280082F403034F524311 : s failed broken stripe 0 column 1 data stream ends
+4F5243FFFFFFFFFFFFFFFFFFFFFF\
+    0A0608011001180B12020800120208001A0A08031000180B201028012208080C1201011A0178220208043001\
+    081C10002202000C280082F403034F524311 : s failed broken stripe 0 column 1 data long varint
+";
 
-/// Two stripes: the greatest number and 1, and then -1.
-const BACK: [u8; 107] = [
-    79, 82, 67, 254, 254, 255, 255, 255, 255, 255, 255, 255, 255, 1, 2, 10, 6, 8, 1, 16, 1, 24, 12,
-    18, 2, 8, 0, 18, 2, 8, 0, 255, 1, 10, 6, 8, 1, 16, 1, 24, 2, 18, 2, 8, 0, 18, 2, 8, 0, 26, 10,
-    8, 3, 16, 0, 24, 12, 32, 16, 40, 2, 26, 10, 8, 31, 16, 0, 24, 2, 32, 16, 40, 1, 34, 8, 8, 12,
-    18, 1, 1, 26, 1, 120, 34, 2, 8, 4, 48, 3, 8, 40, 16, 0, 34, 2, 0, 12, 40, 0, 130, 244, 3, 3,
-    79, 82, 67, 17,
-];
+/// The same with runs of version 2, and two encodings that numbers don't have.
+const VERSION_TWO: &str = "\
+4F52430A2710\
+    0A0608011001180312020800120208021A0A080310001803201028052208080C1201011A0178220208043005\
+    081C10002202000C280082F403034F524311 : s sum 25000
+4F52435E035CA1AB1EDEADBEEF\
+    0A0608011001180A12020800120208021A0A08031000180A201028042208080C1201011A0178220208043004\
+    081C10002202000C280082F403034F524311 : s sum -42897
+4F52438E132B2107D01E00147028323C46505A646E78828C96A0AAB4BEFCE8\
+    0A0608011001181C12020800120208021A0A08031000181C201028142208080C1201011A0178220208043014\
+    081C10002202000C280082F403034F524311 : s sum 1039890
+4F5243C609020222424246\
+    0A0608011001180812020800120208021A0A0803100018082010280A2208080C1201011A017822020804300A\
+    081C10002202000C280082F403034F524311 : s sum 119
+4F52438E133F21\
+    0A0608011001180412020800120208021A0A080310001804201028142208080C1201011A0178220208043014\
+    081C10002202000C280082F403034F524311 : s failed broken stripe 0 column 1 data patch too wide
+4F52438E022B2107D01E0014FCE8\
+    0A0608011001180B12020800120208021A0A08031000180B201028032208080C1201011A0178220208043003\
+    081C10002202000C280082F403034F524311 : s failed broken stripe 0 column 1 data patch out of run
+4F5243610007\
+    0A0608011001180312020800120208011A0A080310001803201028642208080C1201011A0178220208043064\
+    081C10002202000C280082F403034F524311 : s failed broken stripe 0 column 1 encoding
+4F5243610007\
+    0A0608011001180312020800120208031A0A080310001803201028642208080C1201011A0178220208043064\
+    081C10002202000C280082F403034F524311 : s failed broken stripe 0 column 1 encoding
+";
 
-/// A file with no stripe.
-const NO_STRIPE: [u8; 37] = [
-    79, 82, 67, 34, 8, 8, 12, 18, 1, 1, 26, 1, 120, 34, 2, 8, 4, 48, 0, 8, 16, 16, 0, 34, 2, 0, 12,
-    40, 0, 130, 244, 3, 3, 79, 82, 67, 17,
-];
+/// In turn: 100 rows of -4 in a stripe that is listed twice; the greatest number and 1, and -1 in a second stripe; no stripe at all;
+/// five INT rows of which the second and the fifth are null; five nulls without a stream of values; the rows of both of these in two
+/// stripes and 5,000 five times in a third; and 2,000 rows, of which the flags end behind 1,048 and the values behind 100.
+const STRIPES: &str = "\
+4F52436100070A060801100118031202080012020800\
+    1A0A080310001803201028641A0A080310001803201028642208080C1201011A0178220208043064\
+    082810002202000C280082F403034F524311 : s sum -800
+4F5243FEFEFFFFFFFFFFFFFFFF01020A0608011001180C1202080012020800\
+    FF010A060801100118021202080012020800\
+    1A0A08031000180C201028021A0A081F10001802201028012208080C1201011A0178220208043003\
+    082810002202000C280082F403034F524311 : s sum 9223372036854775807
+4F5243\
+    2208080C1201011A0178220208043000\
+    081010002202000C280082F403034F524311 : s sum null
+4F5243FFB0FD0203D8040A060800100118020A060801100118051202080012020800\
+    1A0A080310001807201828052208080C1201011A0178220208033005\
+    081C10002202000C280082F403034F524311 : s sum 299
+4F5243FF000A060800100118021202080012020800\
+    1A0A080310001802201028052208080C1201011A0178220208033005\
+    081C10002202000C280082F403034F524311 : s sum null
+4F5243FFB0FD0203D8040A060800100118020A060801100118051202080012020800\
+    FF000A060800100118021202080012020800\
+    0A27100A060801100118031202080012020802\
+    1A0A080310001807201828051A0A082210001802201028051A0A083410001803201028052208080C1201011A017822020803300F\
+    083410002202000C280082F403034F524311 : s sum 25299
+4F52437DFF00FF6100070A060800100118040A060801100118031202080012020800\
+    1A0B080310001807201828D00F2208080C1201011A01782202080330D00F\
+    081E10002202000C280082F403034F524311 : s failed broken stripe 0 column 1 present stream ends
+";
 
-/// Five rows of an INT column, of which the second and the fifth are null: 1, -2 and 300 stand.
-const NULLS: [u8; 80] = [
-    79, 82, 67, 255, 176, 253, 2, 3, 216, 4, 10, 6, 8, 0, 16, 1, 24, 2, 10, 6, 8, 1, 16, 1, 24, 5,
-    18, 2, 8, 0, 18, 2, 8, 0, 26, 10, 8, 3, 16, 0, 24, 7, 32, 24, 40, 5, 34, 8, 8, 12, 18, 1, 1,
-    26, 1, 120, 34, 2, 8, 3, 48, 5, 8, 28, 16, 0, 34, 2, 0, 12, 40, 0, 130, 244, 3, 3, 79, 82, 67,
-    17,
-];
+/// The file that lists its stripe twice, damaged: the first entry, the second, the rows of the second, and where it lies. The least
+/// stripe that fails counts.
+const DAMAGED_STRIPES: &str = "\
+4F52436100070A060801100118031202080012020800\
+    1A0A080910001803201028641A0A080310001803201028642208080C1201011A0178220208043064\
+    082810002202000C280082F403034F524311 : s failed broken stripe 0 footer wire
+4F52436100070A060801100118031202080012020800\
+    1A0A080310001803201028641A0A080310001803200928642208080C1201011A0178220208043064\
+    082810002202000C280082F403034F524311 : s failed broken stripe 1 footer wire
+4F52436100070A060801100118031202080012020800\
+    1A0A080310001803201028641A0A080310001803201028652208080C1201011A0178220208043064\
+    082810002202000C280082F403034F524311 : s failed broken stripe 1 column 1 data stream ends
+4F52436100070A060801100118031202080012020800\
+    1A0A080310001803201028641A0A080310001803206528642208080C1201011A0178220208043064\
+    082810002202000C280082F403034F524311 : s failed broken tail out of file
+";
 
-/// Five rows of an INT column, all of them null, without a stream of values.
-const ALL_NULL: [u8; 67] = [
-    79, 82, 67, 255, 0, 10, 6, 8, 0, 16, 1, 24, 2, 18, 2, 8, 0, 18, 2, 8, 0, 26, 10, 8, 3, 16, 0,
-    24, 2, 32, 16, 40, 5, 34, 8, 8, 12, 18, 1, 1, 26, 1, 120, 34, 2, 8, 3, 48, 5, 8, 28, 16, 0, 34,
-    2, 0, 12, 40, 0, 130, 244, 3, 3, 79, 82, 67, 17,
-];
-
-/// The rows of both in two stripes, and a third of five rows 5,000, spelled by version 2.
-const THREE_STRIPES: [u8; 141] = [
-    79, 82, 67, 255, 176, 253, 2, 3, 216, 4, 10, 6, 8, 0, 16, 1, 24, 2, 10, 6, 8, 1, 16, 1, 24, 5,
-    18, 2, 8, 0, 18, 2, 8, 0, 255, 0, 10, 6, 8, 0, 16, 1, 24, 2, 18, 2, 8, 0, 18, 2, 8, 0, 10, 39,
-    16, 10, 6, 8, 1, 16, 1, 24, 3, 18, 2, 8, 0, 18, 2, 8, 2, 26, 10, 8, 3, 16, 0, 24, 7, 32, 24,
-    40, 5, 26, 10, 8, 34, 16, 0, 24, 2, 32, 16, 40, 5, 26, 10, 8, 52, 16, 0, 24, 3, 32, 16, 40, 5,
-    34, 8, 8, 12, 18, 1, 1, 26, 1, 120, 34, 2, 8, 3, 48, 15, 8, 52, 16, 0, 34, 2, 0, 12, 40, 0,
-    130, 244, 3, 3, 79, 82, 67, 17,
-];
-
-/// 2,000 rows, of which the flags end behind 1,048 and the values behind 100.
-const BOTH_END: [u8; 82] = [
-    79, 82, 67, 125, 255, 0, 255, 97, 0, 7, 10, 6, 8, 0, 16, 1, 24, 4, 10, 6, 8, 1, 16, 1, 24, 3,
-    18, 2, 8, 0, 18, 2, 8, 0, 26, 11, 8, 3, 16, 0, 24, 7, 32, 24, 40, 208, 15, 34, 8, 8, 12, 18, 1,
-    1, 26, 1, 120, 34, 2, 8, 3, 48, 208, 15, 8, 30, 16, 0, 34, 2, 0, 12, 40, 0, 130, 244, 3, 3, 79,
-    82, 67, 17,
-];
-
-/// Files, and the status and the line that a sum of each has.
-const FILES: [(&[u8], Status, &str); 7] = [
-    (&TWICE, Status::Done, "s sum -800\n"),
-    (&BACK, Status::Done, "s sum 9223372036854775807\n"),
-    (&NO_STRIPE, Status::Done, "s sum null\n"),
-    (&NULLS, Status::Done, "s sum 299\n"),
-    (&ALL_NULL, Status::Done, "s sum null\n"),
-    (&THREE_STRIPES, Status::Done, "s sum 25299\n"),
-    (
-        &BOTH_END,
-        Status::SomeFailed,
-        "s failed broken stripe 0 column 1 present stream ends\n",
-    ),
-];
-
-#[test]
-fn stripes_are_summed_and_nulls_left_out(rt: HostRuntime) {
-    for (file, status, text) in &FILES {
-        assert!(rt; answers(rt.alloc(), &sum_of(file), *status, text), "{text}");
+/// Whether a row's file is summed to the row's text.
+fn holds(alloc: Global, row: &str) -> bool {
+    let Some((digits, text)) = row.split_once(" : ") else {
+        return false;
+    };
+    match hex::decode(alloc, digits) {
+        Ok(file) => sums_to(alloc, file.as_slice(), text),
+        Err(_) => false,
     }
 }
 
-/// Places of the file that lists its stripe twice, the byte that is put there, and the failure.
-const DAMAGED: [(usize, u8, &str); 4] = [
-    (25, 9, "s failed broken stripe 0 footer wire\n"),
-    (43, 9, "s failed broken stripe 1 footer wire\n"),
-    (
-        45,
-        101,
-        "s failed broken stripe 1 column 1 data stream ends\n",
-    ),
-    (43, 101, "s failed broken tail out of file\n"),
-];
-
-/// The file that lists its stripe twice, with that byte at that place.
-fn twice_with(place: usize, byte: u8) -> [u8; 80] {
-    let mut file = TWICE;
-    if let Some(hit) = file.get_mut(place) {
-        *hit = byte;
+fn all_hold(alloc: Global, table: &str) -> bool {
+    for row in table.split_inclusive('\n') {
+        if !holds(alloc, row) {
+            return false;
+        }
     }
-    file
+    true
+}
+
+#[test]
+fn each_stream_has_its_sum_or_its_fault(rt: HostRuntime) {
+    assert!(rt; all_hold(rt.alloc(), VERSION_ONE) && all_hold(rt.alloc(), VERSION_TWO));
+}
+
+#[test]
+fn stripes_are_summed_and_nulls_left_out(rt: HostRuntime) {
+    assert!(rt; all_hold(rt.alloc(), STRIPES));
 }
 
 #[test]
 fn the_least_stripe_that_fails_counts(rt: HostRuntime) {
-    for (place, byte, text) in &DAMAGED {
-        let file = twice_with(*place, *byte);
-        assert!(rt;
-            answers(rt.alloc(), &sum_of(&file), Status::SomeFailed, text),
-            "{text}"
-        );
-    }
+    assert!(rt; all_hold(rt.alloc(), DAMAGED_STRIPES));
 }

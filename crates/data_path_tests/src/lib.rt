@@ -12,6 +12,8 @@ mod lines;
 #[cfg(test)]
 mod one_file;
 #[cfg(test)]
+mod outcomes;
+#[cfg(test)]
 mod own_lines;
 #[cfg(test)]
 mod told;

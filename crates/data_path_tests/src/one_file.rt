@@ -5,7 +5,7 @@ ghost use Rattle.outside.specs.Files.{HasBytes, IsFile, range_of};
 ghost use Rattle.outside.specs.Told.{Extended};
 ghost use Rattle.outside.specs.declared.file_ref.FileRange.{FileRange};
 
-use data_path::{Status, llapd};
+use data_path::llapd;
 use outside::{Bytes, Failed, FileRef, MemorySink, MemorySource, OpenGate, RealWorld, Store};
 use std::alloc::Global;
 
@@ -52,7 +52,7 @@ impl<'a> Store<RealWorld> for OneFile<'a> {
 }
 
 /// A call: its words, its plan, which read of the plan and which write fail (0: none), and the file.
-#[derive(Clone, Copy)]
+#[derive(Drop)]
 pub struct Call<'a> {
     pub words: &'a [&'a str],
     pub plan: &'a str,
@@ -61,42 +61,47 @@ pub struct Call<'a> {
     pub file: &'a [u8],
 }
 
-/// A call without words that sums the file's column, and in which nothing fails.
-pub fn sum_of(file: &[u8]) -> Call<'_> {
-    Call {
+fn source_of(alloc: Global, plan: &str, failing: u64) -> Option<MemorySource> {
+    let bytes = Bytes::new(plan.as_bytes().to_vec(alloc).ok()?);
+    Some(MemorySource::new(bytes, [failing].to_vec(alloc).ok()?))
+}
+
+fn sink_of(alloc: Global, failing: u64) -> Option<MemorySink> {
+    MemorySink::new(alloc, [failing].to_vec(alloc).ok()?, 200).ok()
+}
+
+/// Makes the call over a store of its one file, and answers its exit status.
+fn run(alloc: Global, call: &Call<'_>, source: &mut MemorySource, sink: &mut MemorySink) -> u8 {
+    let mut store = OneFile { bytes: call.file };
+    let more = Vec::new(alloc);
+    llapd::<RealWorld, _, _, _, _>(
+        alloc, call.words, source, &mut store, more, sink, &OpenGate,
+    ).code()
+}
+
+/// Whether a call ends with that exit status, and writes just that text.
+pub fn answers(alloc: Global, call: &Call<'_>, code: u8, text: &str) -> bool {
+    let Some(mut source) = source_of(alloc, call.plan, call.failing_read) else {
+        return false;
+    };
+    let Some(mut sink) = sink_of(alloc, call.failing_write) else {
+        return false;
+    };
+    let answered = run(alloc, call, &mut source, &mut sink);
+    answered == code && sink.written() == Some(text.as_bytes())
+}
+
+/// Whether the fragment `s`, which sums the file's column `x`, writes that text, and the exit status fits it.
+pub fn sums_to(alloc: Global, file: &[u8], text: &str) -> bool {
+    let call = Call {
         words: &[],
         plan: "s sum x from t.orc",
         failing_read: 0,
         failing_write: 0,
         file,
-    }
-}
-
-/// What a call answers, and the sink with what it wrote.
-fn answer(alloc: Global, call: &Call<'_>) -> Option<(Status, MemorySink)> {
-    let plan = Bytes::new(call.plan.as_bytes().to_vec(alloc).ok()?);
-    let mut source = MemorySource::new(plan, [call.failing_read].to_vec(alloc).ok()?);
-    let mut store = OneFile { bytes: call.file };
-    let failing = [call.failing_write].to_vec(alloc).ok()?;
-    let mut sink = MemorySink::new(alloc, failing, 200).ok()?;
-    let status = llapd::<RealWorld, _, _, _, _>(
-        alloc,
-        call.words,
-        &mut source,
-        &mut store,
-        Vec::new(alloc),
-        &mut sink,
-        &OpenGate,
-    );
-    Some((status, sink))
-}
-
-/// Whether a call ends with that status, and writes just that text.
-pub fn answers(alloc: Global, call: &Call<'_>, status: Status, text: &str) -> bool {
-    match answer(alloc, call) {
-        Some((answered, sink)) => answered == status && sink.written() == Some(text.as_bytes()),
-        None => false,
-    }
+    };
+    let code = if text.starts_with("s sum ") { 0 } else { 1 };
+    answers(alloc, &call, code, text)
 }
 
 /// The file of one LONG column `x` in one stripe of 100 rows, each of them -4.

@@ -18,6 +18,7 @@ impl World for WorkedWorld {
     ghost are_files = { λ told e. told_are_files told e };
 }
 
+/// The file's bytes.
 const WORKED_FILE: [u8; 68] = [
     0x4F, 0x52, 0x43, 0x61, 0x00, 0x07, 0x0A, 0x06, 0x08, 0x01, 0x10, 0x01, 0x18, 0x03, 0x12, 0x02,
     0x08, 0x00, 0x12, 0x02, 0x08, 0x00, 0x1A, 0x0A, 0x08, 0x03, 0x10, 0x00, 0x18, 0x03, 0x20, 0x10,
@@ -42,67 +43,79 @@ fn plan(alloc: Global) -> Option<Bytes> {
 }
 
 /// What the call over these objects answers.
-fn sum_over<P: Source, S: Store<WorkedWorld> + Send + Drop, K: Sink>(
+fn sum_over<P: Source + Drop, S: Store<WorkedWorld> + Send + Drop, K: Sink>(
     alloc: Global,
-    plan: &mut P,
+    mut plan: P,
     store: &mut S,
     sink: &mut K,
 ) -> Status {
     let more = Vec::new(alloc);
-    llapd::<WorkedWorld, _, _, _, _>(alloc, &[], plan, store, more, sink, &OpenGate)
-}
-
-fn range(at: u64, len: u64) -> FileRange {
-    FileRange { file: 0, at, len }
+    llapd::<WorkedWorld, _, _, _, _>(alloc, &[], &mut plan, store, more, sink, &OpenGate)
 }
 
 /// The reads of the worked file: its end, its footer, its stripe's footer, and the column's DATA stream.
-fn reads() -> [FileRange; 4] {
-    [range(0, 68), range(22, 28), range(6, 16), range(3, 3)]
-}
-
-const LINE: &[u8] = b"s sum -400\n";
+const READS: [FileRange; 4] = [
+    FileRange {
+        file: 0,
+        at: 0,
+        len: 68,
+    },
+    FileRange {
+        file: 0,
+        at: 22,
+        len: 28,
+    },
+    FileRange {
+        file: 0,
+        at: 6,
+        len: 16,
+    },
+    FileRange {
+        file: 0,
+        at: 3,
+        len: 3,
+    },
+];
 
 /// Whether the sure forms end with the sum, and tell its line and its four reads.
 fn sure_forms_sum(alloc: Global) -> Option<bool> {
     let mut store = SureStore::<WorkedWorld>::new(alloc, files(alloc)?, 8).ok()?;
     let mut sink = SureSink::new(alloc, 64).ok()?;
-    let mut source = SureSource::new(plan(alloc)?);
-    let done = sum_over(alloc, &mut source, &mut store, &mut sink) == Status::Done;
-    let told = sink.written() == Some(LINE) && store.logged() == Some(reads().as_slice());
-    Some(done && told)
+    let status = sum_over(alloc, SureSource::new(plan(alloc)?), &mut store, &mut sink);
+    let told = sink.written() == Some(b"s sum -400\n".as_slice());
+    Some(status == Status::Done && told && store.logged() == READS.get(..))
 }
 
-/// Whether the forms that may fail, without a failing call, do the same.
-fn memory_forms_sum(alloc: Global) -> Option<bool> {
-    let none = Vec::new(alloc);
-    let mut store = MemoryStore::<WorkedWorld>::new(alloc, files(alloc)?, none, 8).ok()?;
+/// Whether a call over a store whose call of that number fails (0: none) writes that text, and tells the first so many reads.
+fn memory_forms_tell(alloc: Global, failing: u64, text: &str, reads: usize) -> Option<bool> {
+    let fails = [failing].to_vec(alloc).ok()?;
+    let mut store = MemoryStore::<WorkedWorld>::new(alloc, files(alloc)?, fails, 8).ok()?;
     let mut sink = MemorySink::new(alloc, Vec::new(alloc), 64).ok()?;
-    let mut source = MemorySource::new(plan(alloc)?, Vec::new(alloc));
-    let done = sum_over(alloc, &mut source, &mut store, &mut sink) == Status::Done;
-    let told = sink.written() == Some(LINE) && store.logged() == Some(reads().as_slice());
-    Some(done && told)
+    let source = MemorySource::new(plan(alloc)?, Vec::new(alloc));
+    let done = sum_over(alloc, source, &mut store, &mut sink) == Status::Done;
+    let told = sink.written() == Some(text.as_bytes()) && store.logged() == READS.get(..reads);
+    Some(told && done == (failing == 0))
 }
 
-/// Whether a store whose call of that number fails gives a read fault.
-fn failing_call_is_a_read_fault(alloc: Global, call: u64) -> Option<bool> {
-    let failing = [call].to_vec(alloc).ok()?;
-    let mut store = MemoryStore::<WorkedWorld>::new(alloc, files(alloc)?, failing, 8).ok()?;
-    let mut sink = SureSink::new(alloc, 64).ok()?;
-    let mut source = SureSource::new(plan(alloc)?);
-    let failed = sum_over(alloc, &mut source, &mut store, &mut sink) == Status::SomeFailed;
-    Some(failed && sink.written() == Some(b"s failed read fault\n".as_slice()))
+/// The store's failing call, from 1 on, and how many reads were told before it.
+const FAILING: [(u64, usize); 5] = [(1, 0), (2, 0), (3, 1), (4, 2), (5, 3)];
+
+fn each_failing_call_is_told(alloc: Global) -> bool {
+    for (call, reads) in &FAILING {
+        if memory_forms_tell(alloc, *call, "s failed read fault\n", *reads) != Some(true) {
+            return false;
+        }
+    }
+    true
 }
 
 #[test]
 fn a_told_file_is_summed_with_four_reads(rt: HostRuntime) {
     assert!(rt; sure_forms_sum(rt.alloc()) == Some(true));
-    assert!(rt; memory_forms_sum(rt.alloc()) == Some(true));
+    assert!(rt; memory_forms_tell(rt.alloc(), 0, "s sum -400\n", 4) == Some(true));
 }
 
 #[test]
 fn a_failing_store_gives_a_read_fault(rt: HostRuntime) {
-    for call in 1..6 {
-        assert!(rt; failing_call_is_a_read_fault(rt.alloc(), call) == Some(true));
-    }
+    assert!(rt; each_failing_call_is_told(rt.alloc()));
 }
