@@ -1,0 +1,4 @@
+pub mod WeightLemmas
+pub mod OrderLemmas
+pub mod TreeLemmas
+pub mod WalkLemmas
