@@ -1,0 +1,4 @@
+pub mod Layouts
+pub mod Opening
+pub mod Started
+pub mod Stored

@@ -1,0 +1,6 @@
+pub mod Acts
+pub mod Laws
+pub mod Layout
+pub mod Openings
+pub mod Readable
+pub mod StoredStreams
