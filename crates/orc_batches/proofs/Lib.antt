@@ -1,0 +1,4 @@
+mod EachColumn
+mod LeftAlone
+mod Walking
+mod WholeColumns

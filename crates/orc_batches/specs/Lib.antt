@@ -1,0 +1,4 @@
+pub mod Batch
+pub mod Batches
+pub mod Laws
+pub mod Walk
