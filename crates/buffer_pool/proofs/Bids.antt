@@ -16,7 +16,7 @@ use Rattle.pool_rule.specs.declared.view.Hold.TheVariants.{Free, Bid, Pinned}
 use Rattle.pool_rule.specs.declared.view.Mark.{Mark}
 use Rattle.pool_rule.specs.declared.view.View.{View}
 use Rattle.pool_rule.specs.declared.word_step.WordStep.{WordStep}
-use Rattle.pool_rule.specs.declared.word_step.WordStep.TheVariants.{Looked, LookedAtCell, Missed, Granted, Returned, Opened, Named, Filled, Published, Counted, Uncounted}
+use Rattle.pool_rule.specs.declared.word_step.WordStep.TheVariants.{Looked, LookedAtCell, Missed, Granted, Returned, Opened, Named, Filled, Published, Counted, Uncounted, EvictBegun, HeaderReleased, Updated}
 use Rattle.pool_rule.specs.Layout.{headers_of}
 use Rattle.pool_rule.specs.Rule.{first_view}
 use Rattle.pool_rule.specs.Seats.{clear_mark, hold_with_key, joined, key_of, mark_at, mark_with_key, noted, part_of, parted, with_granted, with_key, with_mark, with_step}
@@ -110,6 +110,9 @@ IsNoCount (Named header b key found) = Unit {0}
 IsNoCount (Filled header b key done value found) = Unit {0}
 IsNoCount (Published header b key found) = Unit {0}
 IsNoCount (Uncounted header found) = Unit {0}
+IsNoCount (EvictBegun header found) = Unit {0}
+IsNoCount (HeaderReleased header b found) = Unit {0}
+IsNoCount (Updated word found left) = Unit {0}
 
 effect_bids : (id : ℕ) (s : WordStep) (v : View) → IsNoCount s → HasNoBid v → HasNoBid (effect id s v)
 effect_bids id (Looked word found) v no_count h = learnt_bids word found v h
@@ -123,6 +126,9 @@ effect_bids id (Filled header b key done value found) v no_count h = step_bids _
 effect_bids id (Published header b key found) v no_count h = step_bids _ _ (set_bids header _ v (pin_no_bid b (Some key)) h)
 effect_bids id (Counted header found) v no_count h = absurd no_count
 effect_bids id (Uncounted header found) v no_count h = dropping_bids (mark_at v header).hold id header v h
+effect_bids id (EvictBegun header found) v no_count h = step_bids _ _ (set_bids header _ v (h header) h)
+effect_bids id (HeaderReleased header b found) v no_count h = step_bids _ _ (granted_bids b.place _ _ (set_bids header _ v (h header) h))
+effect_bids id (Updated word found left) v no_count h = h
 
 pub made_bids : (files : Option Files) (g : Geometry) (id : ℕ) (s : WordStep) (v w : View) → IsMade files g id s v w → IsNoCount s → HasNoBid v → HasNoBid w
 unfolding noted

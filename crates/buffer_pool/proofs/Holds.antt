@@ -12,12 +12,12 @@ use Rattle.pool_model.specs.declared.step.Step.{Step}
 use Rattle.pool_model.specs.Content.{Files}
 use Rattle.pool_rule.specs.declared.geometry.Geometry.{Geometry}
 use Rattle.pool_rule.specs.declared.geometry.WordName.TheVariants.{KeyOf}
-use Rattle.pool_rule.specs.declared.view.Claim.TheVariants.{Fresh}
+use Rattle.pool_rule.specs.declared.view.Claim.TheVariants.{Fresh, Gone}
 use Rattle.pool_rule.specs.declared.view.Hold.{Hold}
 use Rattle.pool_rule.specs.declared.view.Hold.TheVariants.{Free, Bid, Pinned}
 use Rattle.pool_rule.specs.declared.view.Mark.{Mark}
 use Rattle.pool_rule.specs.declared.view.View.{View}
-use Rattle.pool_rule.specs.declared.word_step.WordStep.TheVariants.{Looked, Granted, Opened, Named, Filled, Published, Counted}
+use Rattle.pool_rule.specs.declared.word_step.WordStep.TheVariants.{Looked, Granted, Opened, Named, Filled, Published, Counted, EvictBegun, HeaderReleased}
 use Rattle.pool_rule.specs.Layout.{IsBlockIn}
 use Rattle.pool_rule.specs.Seats.{clear_mark, granted_at, hold_with_key, key_of, mark_at, mark_with_key, noted, with_granted, with_key, with_mark, with_step}
 use Rattle.pool_rule.specs.WordSteps.{IsMade, IsStateWord, block_in}
@@ -82,6 +82,16 @@ module _ (files : Option Files) (g : Geometry) (id header : ℕ) (v w : View) (w
   pub published_hold : (b : Block) (key : BufferKey) (found : ℕ) → IsMade files g id (Published header b key found) v w → (mark_at w header).hold ≡ Pinned b (Some key)
   unfolding noted
   published_hold b key found m = ap (λ u. (mark_at u header).hold) m.view ∙ ap (λ (x : Mark). x.hold) (step_mark _ _ header ∙ set_here header _ v within)
+
+  -- the claim of a buffer that is evicted
+  pub begun_claim : (found : ℕ) → IsMade files g id (EvictBegun header found) v w → (mark_at w header).claim ≡ Gone (block_in found)
+  unfolding noted
+  begun_claim found m = ap (λ u. (mark_at u header).claim) m.view ∙ ap (λ (x : Mark). x.claim) (step_mark _ _ header ∙ set_here header _ v within)
+
+-- the block of a released header is granted
+pub released_block : (files : Option Files) (g : Geometry) (id header : ℕ) (b : Block) (found : ℕ) (v w : View) → IsMade files g id (HeaderReleased header b found) v w → b.place < length v.granted → granted_at w b.place ≡ Some b.order
+unfolding noted with_step with_granted with_mark
+released_block files g id header b found v w m within = ap (λ u. granted_at u b.place) m.view ∙ get_or-set_same v.granted b.place (Some b.order) None within
 
 -- a granted block is granted
 pub granted_block : (files : Option Files) (g : Geometry) (id : ℕ) (b : Block) (found : ℕ) (v w : View) → IsMade files g id (Granted b found) v w → b.place < length v.granted → granted_at w b.place ≡ Some b.order

@@ -17,17 +17,18 @@ use Rattle.pool_rule.specs.declared.view.Hold.TheVariants.{Free, Bid, Pinned}
 use Rattle.pool_rule.specs.declared.view.Mark.{Mark}
 use Rattle.pool_rule.specs.declared.view.View.{View}
 use Rattle.pool_rule.specs.declared.word_step.WordStep.{WordStep}
-use Rattle.pool_rule.specs.declared.word_step.WordStep.TheVariants.{Looked, LookedAtCell, Missed, Granted, Returned, Opened, Named, Filled, Published, Counted, Uncounted}
+use Rattle.pool_rule.specs.declared.word_step.WordStep.TheVariants.{Looked, LookedAtCell, Missed, Granted, Returned, Opened, Named, Filled, Published, Counted, Uncounted, EvictBegun, HeaderReleased, Updated}
 use Rattle.pool_rule.specs.Layout.{headers_of, places_of}
 use Rattle.pool_rule.specs.Seats.{HasNothing, clear_mark, granted_at, joined, key_of, mark_at, mark_with_key, noted, part_of, parted, with_granted, with_key, with_mark, with_step}
 use Rattle.pool_rule.specs.WordSteps.{IsMade, dropping, effect, event_of, found_by, learnt, left_by, word_at}
 use Rattle.buffer_pool.specs.declared.pool.Pool.{Pool}
 use Rattle.buffer_pool.specs.declared.seat.PoolSeat.{PoolSeat}
+use Rattle.buffer_pool.specs.declared.token.Evicting.{Evicting}
 use Rattle.buffer_pool.specs.declared.token.Grant.{Grant}
 use Rattle.buffer_pool.specs.declared.token.NewBuffer.{NewBuffer}
 use Rattle.buffer_pool.specs.declared.token.Pin.{Pin}
 use Rattle.buffer_pool.specs.Made.{AreMade, header_of, header_of_word, place_of}
-use Rattle.buffer_pool.specs.Pools.{IsGrantOf, IsNewOf, IsPinOf, block_of, new_header, pin_header, view}
+use Rattle.buffer_pool.specs.Pools.{IsEvictingOf, IsGrantOf, IsNewOf, IsPinOf, block_of, evicting_header, new_header, pin_header, view}
 
 -- ---- what a step leaves of a view, beside what it has to do with
 
@@ -82,6 +83,9 @@ beside_effect id (Filled header b key done value found) v = beside_step _ v _ (b
 beside_effect id (Published header b key found) v = beside_step _ v _ (beside_mark header _ v)
 beside_effect id (Counted header found) v = beside_either (found % 16 == 0) v _ _ (beside_step _ v _ (beside_mark header _ v)) (beside_mark header _ v)
 beside_effect id (Uncounted header found) v = beside_dropping (mark_at v header).hold id header v
+beside_effect id (EvictBegun header found) v = beside_step _ v _ (beside_mark header _ v)
+beside_effect id (HeaderReleased header b found) v = beside_step _ v _ (beside_granted b.place _ v _ (beside_mark header _ v))
+beside_effect id (Updated word found left) v = beside_same v
 
 -- what the seat has of another header
 other_mark : (header : ℕ) (m : Mark) (v : View) (other : ℕ) → Some header ≢ Some other → mark_at (with_mark header m v) other ≡ mark_at v other
@@ -126,6 +130,9 @@ effect_mark id (Filled header b key done value found) v other apart = mark_of_st
 effect_mark id (Published header b key found) v other apart = mark_of_step _ _ other ∙ other_mark header _ v other apart
 effect_mark id (Counted header found) v other apart = mark_of_either (found % 16 == 0) _ _ _ other (mark_of_step _ _ other ∙ other_mark header _ v other apart) (other_mark header _ v other apart)
 effect_mark id (Uncounted header found) v other apart = dropping_mark (mark_at v header).hold id header v other apart
+effect_mark id (EvictBegun header found) v other apart = mark_of_step _ _ other ∙ other_mark header _ v other apart
+effect_mark id (HeaderReleased header b found) v other apart = mark_of_step _ _ other ∙ (mark_of_granted b.place _ _ other ∙ other_mark header _ v other apart)
+effect_mark id (Updated word found left) v other apart = refl
 
 -- what is granted to it at another place
 granted_of_step : (s : Step) (w : View) (place : ℕ) → granted_at (with_step s w) place ≡ granted_at w place
@@ -170,6 +177,9 @@ effect_granted id (Filled header b key done value found) v place apart = granted
 effect_granted id (Published header b key found) v place apart = granted_of_step _ _ place ∙ granted_of_mark header _ v place
 effect_granted id (Counted header found) v place apart = granted_of_either (found % 16 == 0) _ _ _ place (granted_of_step _ _ place ∙ granted_of_mark header _ v place) (granted_of_mark header _ v place)
 effect_granted id (Uncounted header found) v place apart = dropping_granted (mark_at v header).hold id header v place
+effect_granted id (EvictBegun header found) v place apart = granted_of_step _ _ place ∙ granted_of_mark header _ v place
+effect_granted id (HeaderReleased header b found) v place apart = granted_of_step _ _ place ∙ (other_granted b.place _ _ place apart ∙ granted_of_mark header _ v place)
+effect_granted id (Updated word found left) v place apart = refl
 
 -- ---- one step
 
@@ -423,9 +433,13 @@ pub pin_stays : {W : Type 0} (pool : Pool W) (old new : PoolSeat W) (pin : Pin) 
 pin_stays pool old new pin files g id s m h apart =
     record { header = h.header; block = h.block; key = h.key; fits = h.fits; pinned = ap (λ (x : Mark). x.hold) (made_mark files g id s (view old) (view new) m (pin_header pin) apart) ∙ h.pinned }
 
+pub evicting_stays : {W : Type 0} (pool : Pool W) (old new : PoolSeat W) (token : Evicting) (files : Option Files) (g : Geometry) (id : ℕ) (s : WordStep) → IsMade files g id s (view old) (view new) → IsEvictingOf pool old token → header_of s ≢ Some (evicting_header token) → IsEvictingOf pool new token
+evicting_stays pool old new token files g id s m h apart =
+    record { header = h.header; block = h.block; claim = ap (λ (x : Mark). x.claim) (made_mark files g id s (view old) (view new) m (evicting_header token) apart) ∙ h.claim }
+
 -- a block that a call found free of the seat's own begins where none of the seat's tokens does
 pub apart_from : {W : Type 0} (pool : Pool W) (seat : PoolSeat W) (grant : Grant) (place : ℕ) → IsGrantOf pool seat grant → granted_at (view seat) place ≡ None → (block_of grant).place ≢ place
 apart_from pool seat grant place token free same =
     none-some (block_of grant).order (sym free ∙ (ap (granted_at (view seat)) (sym same) ∙ token.granted))
 
-pub ruleset callers = (one_made, all_then, made_trail, made_numbers, made_mark, made_granted, all_trail, all_numbers, all_mark, all_granted, finds_known, knows_left, knows_other, looked_nothing, missed_nothing, returned_gone, returned_nothing, part_nothing, part_count, part_knows, parted_numbers, parted_keeps, parted_knows, parted_nothing, joined_keeps, joined_knows, joined_nothing, grant_stays, new_stays, pin_stays, apart_from)
+pub ruleset callers = (one_made, all_then, made_trail, made_numbers, made_mark, made_granted, all_trail, all_numbers, all_mark, all_granted, finds_known, knows_left, knows_other, looked_nothing, missed_nothing, returned_gone, returned_nothing, part_nothing, part_count, part_knows, parted_numbers, parted_keeps, parted_knows, parted_nothing, joined_keeps, joined_knows, joined_nothing, grant_stays, new_stays, pin_stays, evicting_stays, apart_from)

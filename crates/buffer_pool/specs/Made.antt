@@ -1,5 +1,5 @@
 -- Several steps of a seat in a row, and what each step has to do with.
-use Rattle.std.specs.Prelude.{◌≡◌, ◌≢◌, ℕ, ◌+◌, ◌*◌, ◌/◌, ◌%◌, nat_eq, if◌then◌else◌, drop, slice_index, List, [], ◌∷◌, Option, Some, None, Result, Ok, Err}
+use Rattle.std.specs.Prelude.{◌≡◌, ◌≢◌, ℕ, ◌+◌, ◌*◌, ◌/◌, ◌%◌, ◌^◌, max, nat_eq, if◌then◌else◌, drop, slice_index, List, [], ◌∷◌, Option, Some, None, Result, Ok, Err, ◌⊎◌}
 use Rattle.std.specs.Int.{from_le_bytes, to_le_bytes, w64}
 use Rattle.buffer_word.specs.declared.key_word.Key.{Key}
 use Rattle.buffer_word.specs.KeyWord.{key_word}
@@ -11,8 +11,9 @@ use Rattle.pool_rule.specs.declared.geometry.WordName.{WordName}
 use Rattle.pool_rule.specs.declared.geometry.WordName.TheVariants as name
 use Rattle.pool_rule.specs.declared.view.View.{View}
 use Rattle.pool_rule.specs.declared.word_step.WordStep.{WordStep}
-use Rattle.pool_rule.specs.declared.word_step.WordStep.TheVariants.{Looked, LookedAtCell, Missed, Granted, Returned, Opened, Named, Filled, Published, Counted, Uncounted}
-use Rattle.pool_rule.specs.WordSteps.{IsMade}
+use Rattle.pool_rule.specs.declared.word_step.WordStep.TheVariants.{Looked, LookedAtCell, Missed, Granted, Returned, Opened, Named, Filled, Published, Counted, Uncounted, EvictBegun, HeaderReleased, Updated}
+use Rattle.pool_rule.specs.WordSteps.{IsIdleWord, IsMade}
+use Rattle.buffer_pool.specs.declared.fault.Held.{Held}
 use Rattle.buffer_pool.specs.declared.fault.NotPinned.{NotPinned}
 use Rattle.buffer_pool.specs.declared.fault.NotPinned.TheVariants.{Busy, Other}
 
@@ -44,6 +45,9 @@ header_of (Filled header b key done value found) = Some header
 header_of (Published header b key found) = Some header
 header_of (Counted header found) = Some header
 header_of (Uncounted header found) = Some header
+header_of (EvictBegun header found) = Some header
+header_of (HeaderReleased header b found) = Some header
+header_of (Updated word found left) = None
 
 -- the place whose granted block a step may change
 abbrev pub place_of : WordStep → Option ℕ
@@ -58,6 +62,9 @@ place_of (Filled header b key done value found) = None
 place_of (Published header b key found) = None
 place_of (Counted header found) = None
 place_of (Uncounted header found) = None
+place_of (EvictBegun header found) = None
+place_of (HeaderReleased header b found) = Some b.place
+place_of (Updated word found left) = None
 
 -- ---- the steps of calls
 
@@ -70,6 +77,11 @@ cell_in bytes j = from_le_bytes w64 (drop (8 * j) bytes)
 abbrev pub fill_steps : ℕ → Block → BufferKey → (ℕ → ℕ) → ℕ → List ℕ → List WordStep
 fill_steps header b key cell done [] = []
 fill_steps header b key cell done (found ∷ rest) = Filled header b key done (cell done) found ∷ fill_steps header b key cell (done + 1) rest
+
+-- the steps of a touch at a tick, with the words that they found
+abbrev pub touch_steps : ℕ → ℕ → ℕ → ℕ → List WordStep
+touch_steps header tick touches last =
+    Updated (name.Touches header) touches ((touches + 1) % 2 ^ 64) ∷ Updated (name.Last header) last (max last tick) ∷ []
 
 -- how many cells hold a byte of a range that begins `skip` bytes into the first of them
 abbrev pub cells_touched : ℕ → ℕ → ℕ
@@ -98,3 +110,13 @@ Pins files g id header key old new (Err (Busy word)) =
 Pins files g id header key old new (Err (Other other)) =
     (word : ℕ) × (found : ℕ) × IsLiveWord word × (other ≢ key_word key)
     × AreMade files g id (Counted header word ∷ Looked (name.KeyOf header) other ∷ Uncounted header found ∷ []) old new
+
+-- The steps of an eviction's beginning, by its answer. The state is loaded, and if it is that of a live buffer without a count,
+-- one exchange from that word decides. It is refused where either gave another word.
+abbrev pub Evicts : {T : Type 0} → Option Files → Geometry → ℕ → ℕ → View → View → Result T Held → Type 0
+Evicts files g id header old new (Ok evicting) =
+    (word : ℕ) × IsIdleWord word × AreMade files g id (Looked (name.State header) word ∷ EvictBegun header word ∷ []) old new
+Evicts files g id header old new (Err held) =
+    ((IsIdleWord held.word → ⊥) × AreMade files g id (Looked (name.State header) held.word ∷ []) old new)
+    ⊎ ((word : ℕ) × IsIdleWord word × (held.word ≢ word)
+    × AreMade files g id (Looked (name.State header) word ∷ Missed (name.State header) held.word ∷ []) old new)

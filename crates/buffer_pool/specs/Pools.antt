@@ -7,13 +7,14 @@ use Rattle.pool_model.specs.declared.buffer.BufferKey.{BufferKey}
 use Rattle.pool_model.specs.Block.{bytes_in}
 use Rattle.pool_model.specs.Content.{Files, told_bytes}
 use Rattle.pool_rule.specs.declared.geometry.Geometry.{Geometry}
-use Rattle.pool_rule.specs.declared.view.Claim.TheVariants.{Fresh}
+use Rattle.pool_rule.specs.declared.view.Claim.TheVariants.{Fresh, Gone}
 use Rattle.pool_rule.specs.declared.view.Hold.TheVariants.{Pinned}
 use Rattle.pool_rule.specs.declared.view.View.{View}
 use Rattle.pool_rule.specs.Layout.{AreSeats, IsBlockIn, IsGeometry, headers_of}
 use Rattle.pool_rule.specs.Seats.{granted_at, mark_at}
 use Rattle.pool_rule.specs.Tables.{geometry_of, table_of}
 use Rattle.pool_rule.specs.Words.{IsSeatAt}
+use Rattle.buffer_pool.specs.declared.token.Evicting.{Evicting}
 use Rattle.buffer_pool.specs.declared.token.Grant.{Grant}
 use Rattle.buffer_pool.specs.declared.token.NewBuffer.{NewBuffer}
 use Rattle.buffer_pool.specs.declared.token.Pin.{Pin}
@@ -114,3 +115,17 @@ pub record IsPinOf {W : Type 0} (pool : Pool W) (seat : PoolSeat W) (pin : Pin) 
   pub key : IsKey (pin_key pin)
   pub fits : HoldsKey (sizes_of pool) (pin_key pin) (pin_block pin)
   pub pinned : (mark_at (view seat) (pin_header pin)).hold ≡ Pinned (pin_block pin) (Some (buffer_key (pin_key pin)))
+
+-- ---- buffers on their way out
+
+abbrev pub evicting_header : Evicting → ℕ
+evicting_header evicting = evicting.header
+
+abbrev pub evicting_block : Evicting → Block
+evicting_block evicting = evicting.block
+
+-- the token is an evicted buffer of the pool's, which the seat claims
+pub record IsEvictingOf {W : Type 0} (pool : Pool W) (seat : PoolSeat W) (evicting : Evicting) : Type 0 where
+  pub header : evicting_header evicting < headers_of (sizes_of pool)
+  pub block : IsBlockOf pool (evicting_block evicting)
+  pub claim : (mark_at (view seat) (evicting_header evicting)).claim ≡ Gone (evicting_block evicting)

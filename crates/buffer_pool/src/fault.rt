@@ -25,3 +25,10 @@ pub enum NotPinned {
     /// The header's key word, which is that of another key.
     Other { key: u64 },
 }
+
+/// A header's buffer wasn't evicted.
+#[derive(Clone, Copy, Debug, PartialEq, Eq)]
+pub struct Held {
+    /// The header's word, which isn't that of a live buffer without a count, or had changed since it was looked at.
+    pub word: u64,
+}

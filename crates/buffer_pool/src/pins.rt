@@ -16,7 +16,7 @@ use outside::World;
 use pool_model::Block;
 
 /// The block in the state word of a buffer.
-fn block_in_word(word: u64) -> Block
+pub(crate) fn block_in_word(word: u64) -> Block
     requires { word < 2 ^ 44 }
     ensures { result ≡ block_in word }
 {

@@ -27,6 +27,31 @@ pub struct NewBuffer {
     pub(crate) key: Key,
 }
 
+/// An evicted buffer of a header, which the seat claims. Spend it by a call of that seat.
+pub struct Evicting {
+    pub(crate) header: u32,
+    pub(crate) block: Block,
+}
+
+impl Evicting {
+    ghost use Rattle.std.specs.Prelude.{◌≡◌};
+    ghost use Rattle.buffer_pool.specs.Pools.{evicting_block, evicting_header};
+
+    /// The header, counted from 0.
+    pub fn header(&self) -> u32
+        ensures { result ≡ evicting_header self.now }
+    {
+        self.header
+    }
+
+    /// The block, which becomes a grant when the header is released.
+    pub fn block(&self) -> Block
+        ensures { result ≡ evicting_block self.now }
+    {
+        self.block
+    }
+}
+
 /// A hold of a live buffer, whose key is known. Spend it by a call of the seat that has it.
 pub struct Pin {
     pub(crate) header: u32,

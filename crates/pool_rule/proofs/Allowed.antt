@@ -66,10 +66,10 @@ counted_once (Pinned b k) c = refl
 
 module _ (files : Option Files) (setup : Setup) (seats : AreSeats setup.seats) (id : ℕ) (v : View) (live : 0 < length v.numbers) where
   module _ (words : List ℕ) (views : List View) (kept : Kept files setup words views) (at : get_elem? views id ≡ some v) where
-    stood : (i : ℕ) → Stood files setup.geometry id i (get_or words i 0) v
+    pub stood : (i : ℕ) → Stood files setup.geometry id i (get_or words i 0) v
     stood i = (setup, words, views, kept.0, kept.1.0, record { stands = kept.1.1; geometry = refl; seats = seats; found_is = refl; seat_is = at })
 
-    told_here : (i : ℕ) → Told v i (get_or words i 0)
+    pub told_here : (i : ℕ) → Told v i (get_or words i 0)
     told_here i = told files setup words views kept.0 kept.1.0 kept.1.1 id v at live i
 
     look_word : (word : WordName) → IsWord setup.geometry word → EveryRunIsLawful → let i = index_of setup.geometry word in Kept files setup (set words i (get_or words i 0)) (set views id (made setup.geometry id (Looked word (get_or words i 0)) v))

@@ -19,5 +19,9 @@ pub mod Eights
 pub mod Cells
 pub mod Fills
 pub mod CellTold
+pub mod Updates
+pub mod Evicts
+pub mod Releases
 pub mod Allowed
+pub mod Eviction
 pub mod TableSeats

@@ -6,7 +6,7 @@ use Rattle.atomic_table.specs.Seated.{TableId}
 use Rattle.pool_model.specs.declared.block.Block.{Block}
 use Rattle.pool_model.specs.declared.buffer.BufferKey.{BufferKey}
 use Rattle.pool_model.specs.declared.step.Step.{Step}
-use Rattle.pool_model.specs.declared.step.Step.TheVariants.{Name, Fill, Publish, Pin, Unpin}
+use Rattle.pool_model.specs.declared.step.Step.TheVariants.{Name, Fill, Publish, Pin, Unpin, BeginEvict}
 use Rattle.pool_model.specs.Content.{Files}
 use Rattle.pool_rule.specs.declared.view.Hold.{Hold}
 use Rattle.pool_rule.specs.declared.view.Hold.TheVariants.{Free, Bid, Pinned}
@@ -18,12 +18,12 @@ use Rattle.pool_rule.specs.declared.geometry.WordName.TheVariants.{Arena, State,
 use Rattle.pool_rule.specs.declared.view.Access.{Access}
 use Rattle.pool_rule.specs.declared.view.View.{View}
 use Rattle.pool_rule.specs.declared.word_step.WordStep.{WordStep}
-use Rattle.pool_rule.specs.declared.word_step.WordStep.TheVariants.{Looked, LookedAtCell, Missed, Granted, Returned, Opened, Named, Filled, Published, Counted, Uncounted}
+use Rattle.pool_rule.specs.declared.word_step.WordStep.TheVariants.{Looked, LookedAtCell, Missed, Granted, Returned, Opened, Named, Filled, Published, Counted, Uncounted, EvictBegun, HeaderReleased, Updated}
 use Rattle.pool_rule.specs.Layout.{headers_of, places_of}
 use Rattle.pool_rule.specs.Rule.{first_view}
 use Rattle.pool_rule.specs.Seats.{mark_at, clear_mark, noted, with_step, with_granted, with_mark, with_key, mark_with_key, key_of, parted, part_of, joined}
 use Rattle.pool_rule.specs.Words.{TableSeat, IsLeft, IsLive, IsSeatAt, IsStill, view}
-use Rattle.pool_rule.specs.WordSteps.{IsMade, effect, learnt, taking, giving, counting, dropping, naming, filling, publishing, opening}
+use Rattle.pool_rule.specs.WordSteps.{IsMade, block_in, effect, learnt, taking, giving, counting, dropping, naming, filling, publishing, opening, evicting, releasing}
 use Rattle.pool_rule.proofs.Opening.{length-numbers}
 
 pub still : (table : TableId) (g : Geometry) (old new : TableSeat) (w : View) → IsSeatAt table g old → new.table_id ≡ old.table_id → new.id ≡ old.id → new.me ≡ (w, old.me.1) → IsLive g w → IsStill table g old new
@@ -96,6 +96,14 @@ module _ (g : Geometry) (v : View) (h : IsLive g v) where
   publishing_live : (id header : ℕ) (b : Block) (key : BufferKey) → IsLive g (publishing id header b key v)
   publishing_live id header b key = step_live (Publish id header) _ (mark_live header _)
 
+  evicting_live : (id header : ℕ) (b : Block) → IsLive g (evicting id header b v)
+  evicting_live id header b = step_live (BeginEvict id header) _ (mark_live header _)
+
+  releasing_live : (id header : ℕ) (b : Block) → IsLive g (releasing id header b v)
+  unfolding with_step with_granted with_mark
+  releasing_live id header b =
+      record { numbers = h.numbers; geometry = h.geometry; marks = length-set v.marks header _ ∙ h.marks; granted = length-set v.granted b.place (Some b.order) ∙ h.granted }
+
   effect_live : (id : ℕ) (s : WordStep) → IsLive g (effect id s v)
   effect_live id (Looked word found) = learnt_live word found
   effect_live id (LookedAtCell cell found) = h
@@ -108,6 +116,9 @@ module _ (g : Geometry) (v : View) (h : IsLive g v) where
   effect_live id (Published header b key found) = publishing_live id header b key
   effect_live id (Counted header found) = counting_live id header found
   effect_live id (Uncounted header found) = dropping_live (mark_at v header).hold id header
+  effect_live id (EvictBegun header found) = evicting_live id header (block_in found)
+  effect_live id (HeaderReleased header b found) = releasing_live id header b
+  effect_live id (Updated word found left) = h
 
   pub parted_live : (count : ℕ) → count < length v.numbers → IsLive g (parted count v)
   unfolding parted

@@ -61,6 +61,15 @@ IsWord g (Touches header) = header < headers_of g
 IsWord g (Last header) = header < headers_of g
 IsWord g Clock = Unit {0}
 
+-- the word stands for nothing of the pool: touches and last of a header, and the clock
+abbrev pub IsFreeWord : Geometry → WordName → Type 0
+IsFreeWord g (Arena i) = ⊥
+IsFreeWord g (State header) = ⊥
+IsFreeWord g (KeyOf header) = ⊥
+IsFreeWord g (Touches header) = header < headers_of g
+IsFreeWord g (Last header) = header < headers_of g
+IsFreeWord g Clock = Unit {0}
+
 -- each size is in its range
 pub record IsGeometry (g : Geometry) : Type 0 where
   pub power : IsTrue (is_power_of_two g.min_block)

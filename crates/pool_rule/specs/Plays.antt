@@ -1,17 +1,17 @@
 -- What one step on a word has to keep, and what it tells its seat. Source: this project's own.
-use Rattle.std.specs.Prelude.{◌≡◌, ◌≢◌, ℕ, ◌/◌, ◌^◌, ◌<◌, List, Option, slice_index, slice_set}
+use Rattle.std.specs.Prelude.{◌≡◌, ◌≢◌, ℕ, ◌+◌, ◌/◌, ◌%◌, ◌^◌, ◌<◌, max, List, Option, slice_index, slice_set}
 use mathlib.Core.Option.{some}
 use lib.ListN.{get_elem?}
 use Rattle.atomic_table.specs.Table.{Me}
 use Rattle.atomic_table.specs.Table as table
 use Rattle.pool_model.specs.Content.{Files}
 use Rattle.pool_rule.specs.declared.aim.Aim.{Aim}
-use Rattle.pool_rule.specs.declared.aim.Aim.TheVariants.{Look, LookAtCell, Take, Return, Open, StoreKey, StoreCell, Publish, Count, Uncount}
+use Rattle.pool_rule.specs.declared.aim.Aim.TheVariants.{Look, LookAtCell, Take, Return, Open, StoreKey, StoreCell, Publish, Count, Uncount, BeginEvict, Release, Increase, Raise, Clear}
 use Rattle.pool_rule.specs.declared.geometry.Geometry.{Geometry}
 use Rattle.pool_rule.specs.declared.geometry.Setup.{Setup}
 use Rattle.pool_rule.specs.declared.geometry.WordName.TheVariants as name
 use Rattle.pool_rule.specs.declared.view.View.{View}
-use Rattle.pool_rule.specs.declared.word_step.WordStep.TheVariants.{Looked, LookedAtCell, Missed, Granted, Returned, Opened, Named, Filled, Published, Counted, Uncounted}
+use Rattle.pool_rule.specs.declared.word_step.WordStep.TheVariants.{Looked, LookedAtCell, Missed, Granted, Returned, Opened, Named, Filled, Published, Counted, Uncounted, EvictBegun, HeaderReleased, Updated}
 use Rattle.pool_rule.specs.Rule.{Kept}
 use Rattle.pool_rule.specs.WordSteps.{IsMade}
 
@@ -41,3 +41,10 @@ told_by files g id (StoreCell header b key done value) stored v w = (found : ℕ
 told_by files g id (Publish header b key) found v w = IsMade files g id (Published header b key found) v w
 told_by files g id (Count header) found v w = IsMade files g id (Counted header found) v w
 told_by files g id (Uncount header) found v w = IsMade files g id (Uncounted header found) v w
+told_by files g id (BeginEvict header seen) found v w =
+    (found ≡ seen → IsMade files g id (EvictBegun header found) v w)
+    × (found ≢ seen → IsMade files g id (Missed (name.State header) found) v w)
+told_by files g id (Release header b) found v w = IsMade files g id (HeaderReleased header b found) v w
+told_by files g id (Increase word) found v w = IsMade files g id (Updated word found ((found + 1) % 2 ^ 64)) v w
+told_by files g id (Raise word to) found v w = IsMade files g id (Updated word found (max found to)) v w
+told_by files g id (Clear word) found v w = IsMade files g id (Updated word found 0) v w

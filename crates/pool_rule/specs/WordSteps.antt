@@ -28,11 +28,11 @@ use Rattle.pool_rule.specs.declared.view.Hold.{Hold}
 use Rattle.pool_rule.specs.declared.view.Hold.TheVariants.{Free, Bid, Pinned}
 use Rattle.pool_rule.specs.declared.view.View.{View}
 use Rattle.pool_rule.specs.declared.word_step.WordStep.{WordStep}
-use Rattle.pool_rule.specs.declared.word_step.WordStep.TheVariants.{Looked, LookedAtCell, Missed, Granted, Returned, Opened, Named, Filled, Published, Counted, Uncounted}
+use Rattle.pool_rule.specs.declared.word_step.WordStep.TheVariants.{Looked, LookedAtCell, Missed, Granted, Returned, Opened, Named, Filled, Published, Counted, Uncounted, EvictBegun, HeaderReleased, Updated}
 use Rattle.pool_rule.specs.Headers.{packed}
 use Rattle.pool_rule.specs.Layout.{AreSeats, IsBlockIn, block_cells, cell_word, header_word, headers_of, index_of}
 use Rattle.pool_rule.specs.Rule.{StandsFor}
-use Rattle.pool_rule.specs.Seats.{key_of, mark_at, granted_at, noted, Told, with_granted, with_key, with_mark, with_step}
+use Rattle.pool_rule.specs.Seats.{clear_mark, key_of, mark_at, granted_at, noted, Told, with_granted, with_key, with_mark, with_step}
 
 -- ---- the words that steps leave
 
@@ -43,6 +43,10 @@ mask_of b = (2 ^ 2 ^ b.order - 1) * 2 ^ (b.place % 64)
 -- the state word of a new buffer of the block, without a count
 abbrev pub new_word : Block → ℕ
 new_word b = 1 + b.order * 2 ^ 20 + b.place * 2 ^ 24
+
+-- the word is that of a live buffer without a count: order and place alone
+abbrev pub IsIdleWord : ℕ → Type 0
+IsIdleWord word = word % 2 ^ 20 ≡ 0
 
 -- the block in the state word of a buffer
 abbrev pub block_in : ℕ → Block
@@ -63,6 +67,9 @@ word_at g (Filled header b key done value found) = cell_word g (b.place * block_
 word_at g (Published header b key found) = header_word g header
 word_at g (Counted header found) = header_word g header
 word_at g (Uncounted header found) = header_word g header
+word_at g (EvictBegun header found) = header_word g header
+word_at g (HeaderReleased header b found) = header_word g header
+word_at g (Updated word found left) = index_of g word
 
 -- the word as the step found it: a header that is opened was released, without a count
 abbrev pub found_by : WordStep → ℕ
@@ -77,6 +84,9 @@ found_by (Filled header b key done value found) = found
 found_by (Published header b key found) = found
 found_by (Counted header found) = found
 found_by (Uncounted header found) = found
+found_by (EvictBegun header found) = found
+found_by (HeaderReleased header b found) = found
+found_by (Updated word found left) = found
 
 -- the word as the step left it
 abbrev pub left_by : WordStep → ℕ
@@ -91,6 +101,9 @@ left_by (Filled header b key done value found) = value
 left_by (Published header b key found) = (found + 15) % 2 ^ 64
 left_by (Counted header found) = (found + 16) % 2 ^ 64
 left_by (Uncounted header found) = (found + (2 ^ 64 - 16)) % 2 ^ 64
+left_by (EvictBegun header found) = found + 4
+left_by (HeaderReleased header b found) = (found + (2 ^ 64 + 4 - b.order * 2 ^ 20 - b.place * 2 ^ 24)) % 2 ^ 64
+left_by (Updated word found left) = left
 
 abbrev pub access_of : WordStep → Access
 access_of (Looked word found) = Loaded
@@ -104,6 +117,9 @@ access_of (Filled header b key done value found) = Changed
 access_of (Published header b key found) = Changed
 access_of (Counted header found) = Changed
 access_of (Uncounted header found) = Changed
+access_of (EvictBegun header found) = Exchanged
+access_of (HeaderReleased header b found) = Changed
+access_of (Updated word found left) = Changed
 
 -- the step as a trail keeps it
 abbrev pub event_of : Geometry → WordStep → Event
@@ -158,6 +174,16 @@ dropping Bid id header v = with_mark header (record { hold = Free; claim = (mark
 dropping (Pinned b k) id header v =
     with_step (pool_step.Unpin id header) (with_mark header (record { hold = Free; claim = (mark_at v header).claim }) v)
 
+-- a live buffer becomes one that the seat evicts, and then a granted block
+abbrev pub evicting : ℕ → ℕ → Block → View → View
+evicting id header b v =
+    with_step (pool_step.BeginEvict id header) (with_mark header (record { hold = (mark_at v header).hold; claim = Gone b }) v)
+
+abbrev pub releasing : ℕ → ℕ → Block → View → View
+releasing id header b v =
+    with_step (pool_step.Release id header)
+    (with_granted b.place (Some b.order) (with_mark header (record { hold = (mark_at v header).hold; claim = Unclaimed }) v))
+
 -- by the step of the seat with that place among the seats
 abbrev pub effect : ℕ → WordStep → View → View
 effect id (Looked word found) v = learnt word found v
@@ -171,6 +197,9 @@ effect id (Filled header b key done value found) v = filling id header b key don
 effect id (Published header b key found) v = publishing id header b key v
 effect id (Counted header found) v = counting id header found v
 effect id (Uncounted header found) v = dropping (mark_at v header).hold id header v
+effect id (EvictBegun header found) v = evicting id header (block_in found) v
+effect id (HeaderReleased header b found) v = releasing id header b v
+effect id (Updated word found left) v = v
 
 -- the view after a step
 abbrev pub made : Geometry → ℕ → WordStep → View → View
@@ -244,6 +273,9 @@ Tells files g (Filled header b key done value found) v = Unit {0}
 Tells files g (Published header b key found) v = (mark_at v header).hold ≡ Free
 Tells files g (Counted header found) v = IsStateWord g found
 Tells files g (Uncounted header found) v = IsStateWord g found
+Tells files g (EvictBegun header found) v = IsBlockIn g (block_in found) × (mark_at v header ≡ clear_mark)
+Tells files g (HeaderReleased header b found) v = granted_at v b.place ≡ None
+Tells files g (Updated word found left) v = Unit {0}
 
 -- The seat made this step: that is its view then, and this is what the step told.
 pub record IsMade (files : Option Files) (g : Geometry) (id : ℕ) (s : WordStep) (old new : View) : Type 0 where

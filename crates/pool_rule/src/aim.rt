@@ -46,4 +46,22 @@ pub(crate) enum Aim {
     Uncount {
         header: u32,
     },
+    BeginEvict {
+        header: u32,
+        seen: u64,
+    },
+    Release {
+        header: u32,
+        block: Block,
+    },
+    Increase {
+        word: WordName,
+    },
+    Raise {
+        word: WordName,
+        to: u64,
+    },
+    Clear {
+        word: WordName,
+    },
 }

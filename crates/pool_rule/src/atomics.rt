@@ -1,7 +1,7 @@
 //! The atomic operations on a pool's words, each once. What a step tells is the caller's pick, by
 //! its aim: it shows that the step keeps the rule, whatever the words are then.
 
-ghost use Rattle.std.specs.Prelude.{◌≡◌, ◌==◌, ◌+◌, ◌-◌, ◌%◌, ◌^◌, ◌<◌, bit_and};
+ghost use Rattle.std.specs.Prelude.{◌≡◌, ◌==◌, ◌+◌, ◌-◌, ◌%◌, ◌^◌, ◌<◌, bit_and, max};
 ghost use prog.Atomic.{either};
 ghost use Rattle.pool_rule.specs.Plays.{IsAllowed};
 ghost use Rattle.pool_rule.specs.Tables.{setup_of, table_of};
@@ -87,6 +87,40 @@ impl<W: World> Words<W> {
         ensures told { C.told result (view seat.old) (view seat.new) }
     {
         self.table.shared.fetch_add::<Tells<C>>(seat, index, step)
+    }
+
+    /// Puts another word in its place. Gives the word that it found.
+    pub(crate) fn swap<C: Telling>(
+        &self,
+        seat: &mut TableSeat,
+        index: usize,
+        word: u64,
+        _aim: Aim,
+    ) -> u64
+        requires seat { seat.old.table_id ≡ table_of self.now }
+        requires index { index < (table_of self.now).words }
+        requires allowed { IsAllowed W.files (setup_of self.now) seat.old.id (view seat.old) index (λ _. word) C.told }
+        ensures seat { IsLeft seat.old seat.new }
+        ensures told { C.told result (view seat.old) (view seat.new) }
+    {
+        self.table.shared.swap::<Tells<C>>(seat, index, word)
+    }
+
+    /// Raises a word to another, where that is greater. Gives the word that it found.
+    pub(crate) fn raise_to<C: Telling>(
+        &self,
+        seat: &mut TableSeat,
+        index: usize,
+        word: u64,
+        _aim: Aim,
+    ) -> u64
+        requires seat { seat.old.table_id ≡ table_of self.now }
+        requires index { index < (table_of self.now).words }
+        requires allowed { IsAllowed W.files (setup_of self.now) seat.old.id (view seat.old) index (λ n. max n word) C.told }
+        ensures seat { IsLeft seat.old seat.new }
+        ensures told { C.told result (view seat.old) (view seat.new) }
+    {
+        self.table.shared.fetch_max::<Tells<C>>(seat, index, word)
     }
 
     /// Subtracts from a word. Gives the word that it found.

@@ -8,6 +8,8 @@
 
 mod aim;
 mod atomics;
+mod eviction_steps;
+mod free_words;
 mod geometry;
 mod header_steps;
 mod laid;

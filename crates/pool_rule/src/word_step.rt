@@ -72,4 +72,21 @@ pub enum WordStep {
         header: u32,
         found: u64,
     },
+    /// The exchange of a live header's state, without a count, that makes its buffer evicted: the seat claims it.
+    EvictBegun {
+        header: u32,
+        found: u64,
+    },
+    /// The fetch_add that releases the header of an evicted buffer: its block becomes a grant of the seat's.
+    HeaderReleased {
+        header: u32,
+        block: Block,
+        found: u64,
+    },
+    /// A change of a word that stands for nothing of the pool: touches or last tick of a header, or the clock.
+    Updated {
+        word: WordName,
+        found: u64,
+        left: u64,
+    },
 }

@@ -1,0 +1,5 @@
+use Rattle.pool_rule.specs.Plays.{told_by}
+use Rattle.pool_rule.proofs.words.Words.begin_evict.Given as goal
+
+abbrev pub ghosts-exchange : goal.ghosts-exchange
+ghosts-exchange g a = record { told = told_by g.W.World.files a.self.now.table.shared.key.geometry a.seat.now.id a._aim }
