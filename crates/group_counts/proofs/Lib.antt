@@ -1,0 +1,4 @@
+mod Adding
+mod Joined
+mod Fitting
+mod TallyLaws

@@ -1,0 +1,166 @@
+//! The counts of values.
+ghost use Rattle.std.specs.Prelude.{◌≡◌, ◌==◌, [], length, OnOk};
+ghost use Rattle.orc_values.specs.Shown.{shown};
+ghost use Rattle.orc_values.specs.declared.value.Value.TheVariants as value;
+ghost use Rattle.group_counts.specs.Order.{value_cmp};
+ghost use Rattle.group_counts.specs.Tally.{added, added_all};
+ghost use Rattle.group_counts.specs.Entries.{one, renamed, by_bytes, entries_of, all_fit};
+
+use crate::maps::{add_number, add_text, fits, more, numbers_fit, some_key, texts_fit};
+use crate::parts::Parts;
+use orc_values::ValueRef;
+use outside::NoMemory;
+use std::alloc::Global;
+use std::collections::BTreeMap;
+use std::marker::Model;
+
+/// How often each value was counted.
+///
+/// Contracts see it as the list of the values with their counts, values ascending: null, false, true, numbers, texts by
+/// their bytes. A count that would pass the greatest number of 64 bits stays there.
+#[derive(Drop)]
+pub struct Counts {
+    nulls: Option<u64>,
+    falses: Option<u64>,
+    trues: Option<u64>,
+    numbers: BTreeMap<i64, u64>,
+    texts: BTreeMap<Vec<u8>, u64>,
+}
+
+impl Model for Counts {
+    ghost use Rattle.group_counts.specs.Entries.{Entries, entries_of, by_bytes};
+
+    ghost Value = { Entries };
+
+    ghost view = { λ c. entries_of c.nulls c.falses c.trues c.numbers.entries (by_bytes c.texts.entries) };
+}
+
+impl Counts {
+    /// No value, and no memory.
+    pub fn new(alloc: Global) -> Counts
+        ensures { result ≡ [] }
+    {
+        Counts {
+            nulls: None,
+            falses: None,
+            trues: None,
+            numbers: BTreeMap::new(alloc),
+            texts: BTreeMap::new(alloc),
+        }
+    }
+
+    /// Counts a value so often more. A text that is new is copied.
+    ///
+    /// Answers `NoMemory` only where memory was refused.
+    pub fn add(&mut self, alloc: Global, key: ValueRef<'_>, count: u64) -> Result<(), NoMemory>
+        ensures { OnOk result (self.new ≡ added value_cmp self.old (shown key.entry) count) }
+    {
+        self.add_lent(alloc, &key, count)
+    }
+
+    /// The same of a value that is lent.
+    fn add_lent(&mut self, alloc: Global, key: &ValueRef<'_>, count: u64) -> Result<(), NoMemory>
+        ensures { OnOk result (self.new ≡ added value_cmp self.old (shown key.now) count) }
+    {
+        match key {
+            ValueRef::Null => {
+                self.nulls = Some(more(self.nulls, count));
+                Ok(())
+            }
+            ValueRef::Bool(truth) => {
+                if *truth {
+                    self.trues = Some(more(self.trues, count));
+                    return Ok(());
+                }
+                self.falses = Some(more(self.falses, count));
+                Ok(())
+            }
+            ValueRef::Int(number) => add_number(&mut self.numbers, number, count),
+            ValueRef::Text(text) => add_text(alloc, &mut self.texts, text, count),
+        }
+    }
+
+    /// Counts each value of other counts as often more as it stands there.
+    ///
+    /// Answers `NoMemory` only where memory was refused.
+    pub fn add_all(&mut self, alloc: Global, other: &Counts) -> Result<(), NoMemory>
+        ensures { OnOk result (self.new ≡ added_all value_cmp self.old other.now) }
+    {
+        self.add_some(alloc, ValueRef::Null, other.nulls)?;
+        self.add_some(alloc, ValueRef::Bool(false), other.falses)?;
+        self.add_some(alloc, ValueRef::Bool(true), other.trues)?;
+        self.add_numbers(alloc, &other.numbers)?;
+        self.add_texts(alloc, &other.texts)
+    }
+
+    /// Counts a value more, where there is a count.
+    fn add_some(
+        &mut self,
+        alloc: Global,
+        key: ValueRef<'_>,
+        count: Option<u64>,
+    ) -> Result<(), NoMemory>
+        ensures { OnOk result (self.new ≡ added_all value_cmp self.old (one (shown key.entry) count)) }
+    {
+        match count {
+            Some(count) => self.add(alloc, key, count),
+            None => Ok(()),
+        }
+    }
+
+    /// Counts each number more.
+    fn add_numbers(&mut self, alloc: Global, other: &BTreeMap<i64, u64>) -> Result<(), NoMemory>
+        ensures { OnOk result (self.new ≡ added_all value_cmp self.old (renamed (λ n. value.Int n) other.now.entries)) }
+    {
+        for (number, count) in other {
+            self.add(alloc, ValueRef::Int(*number), *count)?;
+        }
+        Ok(())
+    }
+
+    /// Counts each text more.
+    fn add_texts(&mut self, alloc: Global, other: &BTreeMap<Vec<u8>, u64>) -> Result<(), NoMemory>
+        ensures { OnOk result (self.new ≡ added_all value_cmp self.old (renamed (λ t. value.Text t) (by_bytes other.now.entries))) }
+    {
+        for (text, count) in other {
+            self.add(alloc, ValueRef::Text(text.as_slice()), *count)?;
+        }
+        Ok(())
+    }
+
+    /// Whether each count is a number of the 64 bits of `i64`.
+    pub fn all_fit(&self) -> bool
+        ensures { result ≡ all_fit self.now }
+    {
+        let kinds = fits(self.nulls) & fits(self.falses) & fits(self.trues);
+        kinds & numbers_fit(&self.numbers) & texts_fit(&self.texts)
+    }
+
+    /// How many values were counted. Numbers and texts may be as many as memory can hold, each by itself.
+    pub fn len(&self) -> u128
+        ensures { result ≡ length self.now }
+    {
+        let kinds = some_key(self.nulls) + some_key(self.falses) + some_key(self.trues);
+        kinds + self.numbers.len() as u128 + self.texts.len() as u128
+    }
+
+    /// Whether none was.
+    pub fn is_empty(&self) -> bool
+        ensures { result ≡ (length self.now == 0) }
+    {
+        self.len() == 0
+    }
+
+    /// The counts by kind, lent.
+    pub fn parts(&self) -> Parts<'_>
+        ensures { entries_of result.nulls result.falses result.trues result.numbers.now.entries (by_bytes result.texts.now.entries) ≡ self.now }
+    {
+        Parts {
+            nulls: self.nulls,
+            falses: self.falses,
+            trues: self.trues,
+            numbers: &self.numbers,
+            texts: &self.texts,
+        }
+    }
+}

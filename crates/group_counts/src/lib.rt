@@ -1,0 +1,10 @@
+//! How often each value was counted, keys in order: counts of rows by the value of a column.
+#![tactic(auto)]
+
+mod counts;
+pub mod laws;
+mod maps;
+mod parts;
+
+pub use counts::Counts;
+pub use parts::Parts;
