@@ -1,0 +1,104 @@
+-- What becomes of a range that is to be placed, and what each answer tells. Source: this project's own.
+use Rattle.std.specs.Prelude.{◌≡◌, ◌≢◌, ℕ, ◌+◌, ◌*◌, ◌-◌, ◌^◌, ◌<◌, ◌≤◌, List, [], ◌∷◌, ◌++◌, ◌⊎◌, Option, Some, None, slice_index}
+use Rattle.buddy_arena.specs.Buddy.{IsBuddyAnswer}
+use Rattle.buffer_word.specs.declared.key_word.Key.{Key}
+use Rattle.pool_model.specs.declared.block.Block.{Block}
+use Rattle.pool_model.specs.Content.{Files}
+use Rattle.pool_rule.specs.declared.geometry.Geometry.{Geometry}
+use Rattle.pool_rule.specs.declared.geometry.WordName.TheVariants.{Arena, State}
+use Rattle.pool_rule.specs.declared.view.View.{View}
+use Rattle.pool_rule.specs.declared.word_step.WordStep.{WordStep}
+use Rattle.pool_rule.specs.declared.word_step.WordStep.TheVariants.{Missed, Granted, Opened}
+use Rattle.pool_rule.specs.Layout.{greatest_order}
+use Rattle.buffer_pool.specs.declared.pool.Pool.{Pool}
+use Rattle.buffer_pool.specs.declared.seat.PoolSeat.{PoolSeat}
+use Rattle.buffer_pool.specs.Pools.{pin_header, seat_id, sizes_of, view}
+use Rattle.cache_lookup.specs.Before.{HasHoldMore, IsAsBefore}
+use Rattle.cache_lookup.specs.LookUps.{IsPinFor}
+use Rattle.cache_lookup.specs.Right.{AreRight}
+use Rattle.cache_lookup.specs.Trails.{Among, events, last_left, last_load}
+use Rattle.cache_placement.specs.declared.why.Placed.{Placed}
+use Rattle.cache_placement.specs.declared.why.Placed.TheVariants.{Filled, Bypass}
+use Rattle.cache_placement.specs.declared.why.Why.TheVariants.{NoRoom, Raced, Busy, SetFull, PolicyOut}
+
+-- the order of the least block that holds so many bytes
+pub record IsOrder (g : Geometry) (len order : ℕ) : Type 0 where
+  pub fits : order ≤ greatest_order
+  pub room : len ≤ g.min_block * 2 ^ order
+  pub least : (k : ℕ) → len ≤ g.min_block * 2 ^ k → order ≤ k
+
+-- the lowest way whose state is that of a released header without a count
+pub record IsFirstFree (states : List ℕ) (way : ℕ) : Type 0 where
+  pub inside : way < 8
+  pub free : slice_index states way ≡ 8
+  pub lowest : (lower : ℕ) → lower < way → slice_index states lower ≢ 8
+
+-- no way's state is
+abbrev pub NoneFree : List ℕ → Type 0
+NoneFree states = (way : ℕ) → way < 8 → slice_index states way ≢ 8
+
+-- The words are the last loads of the arenas' words, and no arena has a free block of the order by them. Past the last arena
+-- they are all ones.
+pub record HasNoRoom (g : Geometry) (order : ℕ) (ss : List WordStep) (words : List ℕ) : Type 0 where
+  pub last : (arena : ℕ) → arena < g.arenas → last_load arena (events g ss) ≡ Some (slice_index words arena)
+  pub none : (arena : ℕ) → arena < g.arenas → IsBuddyAnswer 64 (slice_index words arena) order None
+  pub past : (i : ℕ) → g.arenas ≤ i → i < 64 → slice_index words i ≡ 2 ^ 64 - 1
+
+-- an exchange on an arena's word gave this word, which is another than the one with which this call's last step on it left it
+pub record IsArenaRaced (g : Geometry) (ss : List WordStep) (saw : ℕ) : Type 0 where
+  pub arena : ℕ
+  pub inside : arena < g.arenas
+  pub earlier : List WordStep
+  pub later : List WordStep
+  pub parts : ss ≡ earlier ++ Missed (Arena arena) saw ∷ later
+  pub word : ℕ
+  pub left : last_left arena (events g earlier) ≡ Some word
+  pub other : saw ≢ word
+
+-- the exchange on a header's state gave this word, not that of a released header without a count
+pub record IsHeaderRaced (header : ℕ) (ss : List WordStep) (saw : ℕ) : Type 0 where
+  pub missed : Among (Missed (State header) saw) ss
+  pub other : saw ≢ 8
+
+-- one of both, where the header is the first that was seen released
+abbrev pub IsRaced : Geometry → ℕ → List ℕ → List WordStep → ℕ → Type 0
+IsRaced g first states ss saw = IsArenaRaced g ss saw ⊎ ((way : ℕ) × IsFirstFree states way × IsHeaderRaced (first + way) ss saw)
+
+abbrev pub Tells : Geometry → ℕ → ℕ → List ℕ → List WordStep → Placed → Type 0
+Tells g order first states ss (Filled pin) = Unit {0}
+Tells g order first states ss (Bypass (NoRoom words)) = HasNoRoom g order ss words
+Tells g order first states ss (Bypass (Raced saw)) = IsRaced g first states ss saw
+Tells g order first states ss (Bypass (SetFull seen)) = NoneFree states × (seen ≡ states) × (ss ≡ [])
+Tells g order first states ss (Bypass (Busy word)) = ⊥
+Tells g order first states ss (Bypass PolicyOut) = ⊥
+
+-- a pin is one hold more, and after any bypass the seat has what it had
+abbrev pub Leaves : View → View → Placed → Type 0
+Leaves old new (Filled pin) = HasHoldMore old new (pin_header pin)
+Leaves old new (Bypass why) = IsAsBefore old new
+
+abbrev pub IsFilled : Placed → Type 0
+IsFilled (Filled pin) = Unit {0}
+IsFilled (Bypass why) = ⊥
+
+-- the answer is that the header was lost, by an exchange among these steps
+abbrev pub IsLost : List WordStep → Placed → Type 0
+IsLost ss placed = (header saw : ℕ) × (placed ≡ Bypass (Raced saw)) × Among (Missed (State header) saw) ss
+
+-- the pin is the seat's, of the key
+abbrev pub HoldsPlaced : {W : Type 0} → Pool W → PoolSeat W → Key → Placed → Type 0
+HoldsPlaced pool seat key (Filled pin) = IsPinFor pool seat key pin
+HoldsPlaced pool seat key (Bypass why) = Unit {0}
+
+-- The seat placed a range by these steps, with that answer. A grant makes the answer that the range is filled, or that the header was lost, and an opening that it is filled.
+pub record IsPlacement (files : Option Files) (g : Geometry) (id : ℕ) (key : Key) (order first : ℕ) (states : List ℕ) (ss : List WordStep) (old new : View) (placed : Placed) : Type 0 where
+  pub right : AreRight files g id key ⊥ old [] old ss new
+  pub leaves : Leaves old new placed
+  pub tells : Tells g order first states ss placed
+  pub granted : (b : Block) (found : ℕ) → Among (Granted b found) ss → IsFilled placed ⊎ IsLost ss placed
+  pub opened : (header : ℕ) (b : Block) (cells : List ℕ) → Among (Opened header b cells) ss → IsFilled placed
+
+-- some steps did
+abbrev pub PlacesRange : {W : Type 0} → Option Files → Pool W → PoolSeat W → PoolSeat W → Key → ℕ → ℕ → List ℕ → Placed → Type 0
+PlacesRange files pool old new key order first states placed =
+    (ss : List WordStep) × IsPlacement files (sizes_of pool) (seat_id old) key order first states ss (view old) (view new) placed
