@@ -1,6 +1,6 @@
 -- For those who make several calls in a row: what follows by name from the step that a call made, as lemmas that a proof of
 -- theirs can use. `m` says in each which step was made, from the view v to the view w.
-use Rattle.std.specs.Prelude.{◌≡◌, ◌≢◌, ◌==◌, ℕ, ◌-◌, ◌%◌, ◌<◌, replicate, if◌then◌else◌, Bool, true, false, List, [], ◌∷◌, ◌++◌, map, length, Option, None, Some, IfSome, IsSomeAnd, option_map, slice_index, slice_index_or, slice_set}
+use Rattle.std.specs.Prelude.{◌≡◌, ◌≢◌, ◌==◌, ℕ, ◌-◌, ◌%◌, ◌<◌, replicate, if◌then◌else◌, Bool, true, false, List, [], ◌∷◌, ◌++◌, map, length, Option, None, Some, IfSome, IsSomeAnd, Err, option_map, slice_index, slice_index_or, slice_set}
 use Rattle.std.proofs.Common.{refl, sym, ◌∙◌, ap, subst, inl, inr, arith}
 use Rattle.std.proofs.lemmas.Bool.{cases_eq, cases_lt}
 use Rattle.std.proofs.lemmas.Option.{none-some}
@@ -12,6 +12,8 @@ use Rattle.pool_rule.specs.declared.geometry.Geometry.{Geometry}
 use Rattle.pool_rule.specs.declared.geometry.WordName.{WordName}
 use Rattle.pool_rule.specs.declared.geometry.WordName.TheVariants as name
 use Rattle.pool_rule.specs.declared.view.Event.TheVariants.{Joined, Parted}
+use Rattle.pool_rule.specs.declared.view.Claim.{Claim}
+use Rattle.pool_rule.specs.declared.view.Claim.TheVariants.{Unclaimed}
 use Rattle.pool_rule.specs.declared.view.Hold.{Hold}
 use Rattle.pool_rule.specs.declared.view.Hold.TheVariants.{Free, Bid, Pinned}
 use Rattle.pool_rule.specs.declared.view.Mark.{Mark}
@@ -21,13 +23,14 @@ use Rattle.pool_rule.specs.declared.word_step.WordStep.TheVariants.{Looked, Look
 use Rattle.pool_rule.specs.Layout.{headers_of, places_of}
 use Rattle.pool_rule.specs.Seats.{HasNothing, clear_mark, granted_at, joined, key_of, mark_at, mark_with_key, noted, part_of, parted, with_granted, with_key, with_mark, with_step}
 use Rattle.pool_rule.specs.WordSteps.{IsMade, dropping, effect, event_of, found_by, learnt, left_by, word_at}
+use Rattle.buffer_pool.specs.declared.fault.Held.{Held}
 use Rattle.buffer_pool.specs.declared.pool.Pool.{Pool}
 use Rattle.buffer_pool.specs.declared.seat.PoolSeat.{PoolSeat}
 use Rattle.buffer_pool.specs.declared.token.Evicting.{Evicting}
 use Rattle.buffer_pool.specs.declared.token.Grant.{Grant}
 use Rattle.buffer_pool.specs.declared.token.NewBuffer.{NewBuffer}
 use Rattle.buffer_pool.specs.declared.token.Pin.{Pin}
-use Rattle.buffer_pool.specs.Made.{AreMade, header_of, header_of_word, place_of}
+use Rattle.buffer_pool.specs.Made.{AreMade, Evicts, header_of, header_of_word, place_of}
 use Rattle.buffer_pool.specs.Pools.{IsEvictingOf, IsGrantOf, IsNewOf, IsPinOf, block_of, evicting_header, new_header, pin_header, view}
 
 -- ---- what a step leaves of a view, beside what it has to do with
@@ -370,6 +373,99 @@ returned_nothing files g id id' b seen found v u w m r h =
           ];
     }
 
+-- ---- buffers on their way out
+
+-- a refused eviction leaves what the seat has
+refused_steps : (files : Option Files) (g : Geometry) (id header : ℕ) (v w : View) (held : Held) → Evicts files g id header v w (Err held) →
+    ((other : ℕ) → mark_at w other ≡ mark_at v other) × ((place : ℕ) → granted_at w place ≡ granted_at v place)
+refused_steps files g id header v w held refused =
+    elim refused [
+      | inl shown ↦
+          let ss = Looked (name.State header) held.word ∷ [] in (
+            λ other. all_mark files g id ss v w shown.1 other (none-some other, tt),
+            λ place. all_granted files g id ss v w shown.1 place (none-some place, tt),
+          )
+      | inr lost ↦
+          let ss = Looked (name.State header) lost.0 ∷ Missed (name.State header) held.word ∷ [] in (
+            λ other. all_mark files g id ss v w lost.3 other (none-some other, (none-some other, tt)),
+            λ place. all_granted files g id ss v w lost.3 place (none-some place, (none-some place, tt)),
+          )
+    ]
+
+pub refused_mark : (files : Option Files) (g : Geometry) (id header : ℕ) (v w : View) (held : Held) → Evicts files g id header v w (Err held) →
+    (other : ℕ) → mark_at w other ≡ mark_at v other
+refused_mark files g id header v w held refused = (refused_steps files g id header v w held refused).0
+
+pub refused_granted : (files : Option Files) (g : Geometry) (id header : ℕ) (v w : View) (held : Held) → Evicts files g id header v w (Err held) →
+    (place : ℕ) → granted_at w place ≡ granted_at v place
+refused_granted files g id header v w held refused = (refused_steps files g id header v w held refused).1
+
+-- what becomes of a header's hold and claim, where they are set
+hold_set : (header : ℕ) (c : Claim) (v : View) → (mark_at (with_mark header (record { hold = (mark_at v header).hold; claim = c }) v) header).hold ≡ (mark_at v header).hold
+unfolding with_mark
+hold_set header c v =
+    let m : Mark = record { hold = (mark_at v header).hold; claim = c } in
+    elim (cases_lt header (length v.marks)) [
+      | inl within ↦ ap (λ (x : Mark). x.hold) (get_or-set_same v.marks header m clear_mark within)
+      | inr past ↦ ap (λ l. (slice_index_or l header clear_mark).hold) (set_past v.marks header m past)
+    ]
+
+claim_unset : (header : ℕ) (h : Hold) (v : View) → (mark_at (with_mark header (record { hold = h; claim = Unclaimed }) v) header).claim ≡ Unclaimed
+unfolding with_mark
+claim_unset header h v =
+    let m : Mark = record { hold = h; claim = Unclaimed } in
+    elim (cases_lt header (length v.marks)) [
+      | inl within ↦ ap (λ (x : Mark). x.claim) (get_or-set_same v.marks header m clear_mark within)
+      | inr past ↦ ap (λ l. (slice_index_or l header clear_mark).claim) (set_past v.marks header m past) ∙ ap (λ (x : Mark). x.claim) (get_or_past v.marks header clear_mark past)
+    ]
+
+-- the seat that evicts a buffer had nothing of its header
+pub begun_clear : (files : Option Files) (g : Geometry) (id header found : ℕ) (v w : View) → IsMade files g id (EvictBegun header found) v w → mark_at v header ≡ clear_mark
+begun_clear files g id header found v w m = m.tells.1
+
+-- and once the header is released it has nothing of it again
+pub released_clear : (files : Option Files) (g : Geometry) (id id' header found left : ℕ) (b : Block) (v u w : View) →
+    IsMade files g id (EvictBegun header found) v u → IsMade files g id' (HeaderReleased header b left) u w → mark_at w header ≡ clear_mark
+unfolding noted
+released_clear files g id id' header found left b v u w m r =
+    let begun : (mark_at u header).hold ≡ Free =
+    ap (λ x. (mark_at x header).hold) m.view ∙ (ap (λ (x : Mark). x.hold) (mark_of_step _ _ header) ∙ (hold_set header _ v ∙ ap (λ (x : Mark). x.hold) m.tells.1)) in
+    let hold : (mark_at w header).hold ≡ Free =
+    ap (λ x. (mark_at x header).hold) r.view ∙ (ap (λ (x : Mark). x.hold) (mark_of_step _ _ header ∙ mark_of_granted b.place _ _ header) ∙ (hold_set header _ u ∙ begun)) in
+    let claim : (mark_at w header).claim ≡ Unclaimed =
+    ap (λ x. (mark_at x header).claim) r.view ∙ (ap (λ (x : Mark). x.claim) (mark_of_step _ _ header ∙ mark_of_granted b.place _ _ header) ∙ claim_unset header _ u) in
+    λ k. record { hold = hold k; claim = claim k }
+
+-- a buffer that goes out, with its block given back, leaves what the seat had
+pub out_mark : (files : Option Files) (g : Geometry) (id id' id'' header found left given : ℕ) (b : Block) (v u w x : View) →
+    IsMade files g id (EvictBegun header found) v u → IsMade files g id' (HeaderReleased header b left) u w → IsMade files g id'' (Returned b given) w x →
+    (other : ℕ) → mark_at x other ≡ mark_at v other
+out_mark files g id id' id'' header found left given b v u w x m r q other =
+    let last = made_mark files g id'' (Returned b given) w x q other (none-some other) in
+    elim (cases_eq other header) [
+      | inl same ↦
+          let here : mark_at w other ≡ mark_at v other =
+          ap (mark_at w) same ∙ (released_clear files g id id' header found left b v u w m r ∙ (sym m.tells.1 ∙ ap (mark_at v) (sym same))) in
+          last ∙ here
+      | inr apart ↦
+          let away : Some header ≢ Some other = λ e. apart (let f : other ≡ header = cc in f) in
+          last ∙ (made_mark files g id' (HeaderReleased header b left) u w r other away ∙ made_mark files g id (EvictBegun header found) v u m other away)
+    ]
+
+pub out_granted : (files : Option Files) (g : Geometry) (id id' id'' header found left given : ℕ) (b : Block) (v u w x : View) →
+    IsMade files g id (EvictBegun header found) v u → IsMade files g id' (HeaderReleased header b left) u w → IsMade files g id'' (Returned b given) w x →
+    (place : ℕ) → granted_at x place ≡ granted_at v place
+out_granted files g id id' id'' header found left given b v u w x m r q place =
+    let first = made_granted files g id (EvictBegun header found) v u m place (none-some place) in
+    elim (cases_eq place b.place) [
+      | inl same ↦
+          let none : granted_at u place ≡ None = ap (granted_at u) same ∙ r.tells in
+          ap (granted_at x) same ∙ (returned_gone files g id'' b given w x q ∙ (sym none ∙ first))
+      | inr apart ↦
+          let away : Some b.place ≢ Some place = λ e. apart (let f : place ≡ b.place = cc in f) in
+          made_granted files g id'' (Returned b given) w x q place away ∙ (made_granted files g id' (HeaderReleased header b left) u w r place away ∙ first)
+    ]
+
 -- ---- seats parted and joined
 
 module _ (count : ℕ) (v : View) where
@@ -442,4 +538,4 @@ pub apart_from : {W : Type 0} (pool : Pool W) (seat : PoolSeat W) (grant : Grant
 apart_from pool seat grant place token free same =
     none-some (block_of grant).order (sym free ∙ (ap (granted_at (view seat)) (sym same) ∙ token.granted))
 
-pub ruleset callers = (one_made, all_then, made_trail, made_numbers, made_mark, made_granted, all_trail, all_numbers, all_mark, all_granted, finds_known, knows_left, knows_other, looked_nothing, missed_nothing, returned_gone, returned_nothing, part_nothing, part_count, part_knows, parted_numbers, parted_keeps, parted_knows, parted_nothing, joined_keeps, joined_knows, joined_nothing, grant_stays, new_stays, pin_stays, evicting_stays, apart_from)
+pub ruleset callers = (one_made, all_then, made_trail, made_numbers, made_mark, made_granted, all_trail, all_numbers, all_mark, all_granted, finds_known, knows_left, knows_other, looked_nothing, missed_nothing, returned_gone, returned_nothing, part_nothing, part_count, part_knows, parted_numbers, parted_keeps, parted_knows, parted_nothing, joined_keeps, joined_knows, joined_nothing, grant_stays, new_stays, pin_stays, evicting_stays, refused_mark, refused_granted, begun_clear, released_clear, out_mark, out_granted, apart_from)

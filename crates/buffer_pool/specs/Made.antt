@@ -12,10 +12,12 @@ use Rattle.pool_rule.specs.declared.geometry.WordName.TheVariants as name
 use Rattle.pool_rule.specs.declared.view.View.{View}
 use Rattle.pool_rule.specs.declared.word_step.WordStep.{WordStep}
 use Rattle.pool_rule.specs.declared.word_step.WordStep.TheVariants.{Looked, LookedAtCell, Missed, Granted, Returned, Opened, Named, Filled, Published, Counted, Uncounted, EvictBegun, HeaderReleased, Updated}
-use Rattle.pool_rule.specs.WordSteps.{IsIdleWord, IsMade}
+use Rattle.pool_rule.specs.WordSteps.{IsIdleWord, IsMade, block_in}
 use Rattle.buffer_pool.specs.declared.fault.Held.{Held}
 use Rattle.buffer_pool.specs.declared.fault.NotPinned.{NotPinned}
 use Rattle.buffer_pool.specs.declared.fault.NotPinned.TheVariants.{Busy, Other}
+use Rattle.buffer_pool.specs.declared.token.Evicting.{Evicting}
+use Rattle.buffer_pool.specs.Pools.{evicting_block}
 
 -- the seat made these steps, one after the other, and no others
 abbrev pub AreMade : Option Files → Geometry → ℕ → List WordStep → View → View → Type 0
@@ -112,10 +114,11 @@ Pins files g id header key old new (Err (Other other)) =
     × AreMade files g id (Counted header word ∷ Looked (name.KeyOf header) other ∷ Uncounted header found ∷ []) old new
 
 -- The steps of an eviction's beginning, by its answer. The state is loaded, and if it is that of a live buffer without a count,
--- one exchange from that word decides. It is refused where either gave another word.
-abbrev pub Evicts : {T : Type 0} → Option Files → Geometry → ℕ → ℕ → View → View → Result T Held → Type 0
+-- one exchange from that word decides; the buffer's block is the word's. It is refused where either gave another word.
+abbrev pub Evicts : Option Files → Geometry → ℕ → ℕ → View → View → Result Evicting Held → Type 0
 Evicts files g id header old new (Ok evicting) =
-    (word : ℕ) × IsIdleWord word × AreMade files g id (Looked (name.State header) word ∷ EvictBegun header word ∷ []) old new
+    (word : ℕ) × IsIdleWord word × (evicting_block evicting ≡ block_in word)
+    × AreMade files g id (Looked (name.State header) word ∷ EvictBegun header word ∷ []) old new
 Evicts files g id header old new (Err held) =
     ((IsIdleWord held.word → ⊥) × AreMade files g id (Looked (name.State header) held.word ∷ []) old new)
     ⊎ ((word : ℕ) × IsIdleWord word × (held.word ≢ word)

@@ -71,4 +71,4 @@ returns-clause-made g c =
     let hit = c.if-word-seen.false in
     let P : ℕ × ℕ → Type 0 = λ z. IsMade g.W.World.files (sizes_of c.args.pool.now) z.0 (EvictBegun c.args.header z.1) u w in
     let begun = subst P (λ k. (c.look-seen.ensures.seat.id_is k, hit k)) (c.begin_evict-word.ensures.ok hit) in
-    (c.look-seen.result, c.if-seen-ne0.false, (u, c.look-seen.ensures.made, (w, begun, refl)))
+    (c.look-seen.result, c.if-seen-ne0.false, c.block_in_word-block.ensures, (u, c.look-seen.ensures.made, (w, begun, refl)))
