@@ -4,6 +4,8 @@
 #[cfg(test)]
 mod blocks;
 #[cfg(test)]
+mod evictions;
+#[cfg(test)]
 mod grants;
 #[cfg(test)]
 mod packed_words;
