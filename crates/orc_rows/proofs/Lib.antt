@@ -1,0 +1,5 @@
+mod AnyPlace
+mod Giving
+mod Judging
+mod OneFile
+mod Starting
