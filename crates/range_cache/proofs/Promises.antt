@@ -2,6 +2,7 @@
 use Rattle.std.proofs.Common.{◌≡◌, ◌≢◌, ℕ, ◌+◌, ◌-◌, ◌<◌, ◌≤◌, List, [], ◌∷◌, ◌++◌, length, refl, sym, ap, ◌∙◌, subst, inl, inr, arith}
 use Rattle.std.specs.Prelude.{Option, Some, None, IsSome, IsSomeAnd, ◌⊎◌, slice_index, slice_range}
 use Rattle.std.proofs.lemmas.List.{append_assoc, append-nil}
+use Rattle.buddy_arena.specs.Buddy.{IsBuddyAnswer}
 use Rattle.buffer_word.specs.declared.key_word.Key.{Key}
 use Rattle.outside.specs.declared.file_ref.FileRef.{FileRef}
 use Rattle.outside.specs.Files.{HasBytes, IsFile}
@@ -18,6 +19,7 @@ use Rattle.buffer_pool.specs.Pools.{IsContentOf, buffer_key, pin_header}
 use Rattle.cache_lookup.specs.declared.ways.Found.TheVariants as found
 use Rattle.cache_lookup.specs.Before.{HasHoldMore}
 use Rattle.cache_lookup.specs.Callers.{before_then, right_any, right_parts}
+use Rattle.cache_lookup.specs.Exact.{state_in}
 use Rattle.cache_lookup.specs.LookUps.{IsLookStep, IsLookUp, IsMissing, other_key, no_buffer}
 use Rattle.cache_lookup.specs.Right.{AreRight}
 use Rattle.cache_lookup.specs.Sets.{IsWay, first_way}
@@ -26,10 +28,13 @@ use Rattle.cache_lookup.specs.TrailLaws.{among_back, among_either, among_front, 
 use Rattle.cache_placement.specs.declared.why.Placed.TheVariants as placed
 use Rattle.cache_placement.specs.declared.why.Why.{Why}
 use Rattle.cache_placement.specs.declared.why.Why.TheVariants.{NoRoom, Raced, Busy, SetFull, PolicyOut}
-use Rattle.cache_placement.specs.Placements.{HasNoRoom, IsArenaRaced, IsHeaderRaced, IsOrder, IsPlacement, IsRaced}
+use Rattle.cache_placement.specs.Exact.{AreStates}
+use Rattle.cache_placement.specs.Free.{IsFirstFree, IsOrder, NoneFree}
+use Rattle.cache_placement.specs.Placements.{HasNoRoom, IsArenaRaced, IsHeaderRaced, IsPlacement, IsRaced}
 use Rattle.cache_placement.specs.Placements as placement
 use Rattle.range_cache.specs.declared.ranged.Grip.TheVariants as grip
 use Rattle.range_cache.specs.declared.ranged.How.TheVariants.{Hit, Filled, Bypass}
+use Rattle.range_cache.specs.Exact.{HasNoArena, IsExact, IsFreeWay, IsInNoWay}
 use Rattle.range_cache.specs.Fetches.{IsFailedFetch, IsFetch, IsLost, IsNowhere, IsOfFile, IsWayRaced, Tells}
 
 -- ---- the steps of a look-up grant and open nothing
@@ -49,6 +54,7 @@ module _ (files : Option Files) (g : Geometry) (id : ℕ) (key : Key) (ss : List
         tells = tt;
         granted = λ b f there. absurd (no_grant b f (l.only (Granted b f) there));
         opened = λ h b cells there. absurd (no_open h b cells (l.only (Opened h b cells) there));
+        exact = λ words known. let x = l.exact words known in (x.0, x.1, x.3);
       }
 
   pub busy : (word : ℕ) → IsLookUp files g id key ss states v w (found.Busy word) → IsFetch files g id key ss v w (record { how = Bypass (Busy word); evicted = 0; moved = 0; held = grip.Bypass key })
@@ -59,13 +65,14 @@ module _ (files : Option Files) (g : Geometry) (id : ℕ) (key : Key) (ss : List
         tells = l.tells;
         granted = λ b f there. absurd (no_grant b f (l.only (Granted b f) there));
         opened = λ h b cells there. absurd (no_open h b cells (l.only (Opened h b cells) there));
+        exact = λ words known. l.exact words known;
       }
 
   pub busy_failed : (word : ℕ) → IsLookUp files g id key ss states v w (found.Busy word) → IsFailedFetch files g id key ss v w
-  busy_failed word l = record { right = l.right; only = l.only; leaves = l.leaves }
+  busy_failed word l = record { right = l.right; only = l.only; leaves = l.leaves; words = λ words known. (l.exact words known).4 }
 
   pub missing_failed : IsLookUp files g id key ss states v w found.Missing → IsFailedFetch files g id key ss v w
-  missing_failed l = record { right = l.right; only = l.only; leaves = l.leaves }
+  missing_failed l = record { right = l.right; only = l.only; leaves = l.leaves; words = λ words known. (l.exact words known).1 }
 
 -- ---- a range that was placed
 
@@ -104,7 +111,7 @@ module _ (files : Option Files) (g : Geometry) (id : ℕ) (key : Key) (order : �
         other = r.other;
       }
 
-  way_raced : (saw way : ℕ) → placement.IsFirstFree states way → IsHeaderRaced (first_way g key + way) ts saw → IsWayRaced g key (ss ++ ts) saw
+  way_raced : (saw way : ℕ) → IsFirstFree states way → IsHeaderRaced (first_way g key + way) ts saw → IsWayRaced g key (ss ++ ts) saw
   way_raced saw way free r =
       let lt = free.inside in
       let header : ℕ = first_way g key + way in
@@ -122,7 +129,7 @@ module _ (files : Option Files) (g : Geometry) (id : ℕ) (key : Key) (order : �
   some_not : (word state : ℕ) → state ≢ 8 → first_load word (events g ss) ≡ Some state → IsSomeAnd (first_load word (events g ss)) (λ x. x ≢ 8)
   some_not word state ne e = let P : Option ℕ → Type 0 = λ o. IsSomeAnd o (λ x. x ≢ 8) in subst P (sym e) ne
 
-  full : (seen : List ℕ) → placement.NoneFree states → seen ≡ states → ts ≡ [] → Tells g key (ss ++ ts) (Bypass (SetFull seen))
+  full : (seen : List ℕ) → NoneFree states → seen ≡ states → ts ≡ [] → Tells g key (ss ++ ts) (Bypass (SetFull seen))
   full seen none is empty =
       let P : List WordStep × List ℕ → Type 0 = λ z. Tells g key (ss ++ z.0) (Bypass (SetFull z.1)) in
       let e = sym empty in
@@ -164,14 +171,53 @@ module _ (files : Option Files) (g : Geometry) (id : ℕ) (key : Key) (order : �
   no_opens : (header : ℕ) (b : Block) (cells : List ℕ) → Among (Opened header b cells) ss → ⊥
   no_opens header b cells there = no_open header b cells (l.only (Opened header b cells) there)
 
-  pub filled : (pin : Pin) → IsPlacement files g id key order (first_way g key) states ts u w (placed.Filled pin) → IsFetch files g id key (ss ++ ts) v w (record { how = Filled; evicted = 0; moved = 0; held = grip.Pin pin })
-  filled pin p =
+  -- ---- the same for a seat that knows the words
+
+  module _ (words : List ℕ) (known : v.known ≡ Some words) where
+    in_no_way : IsInNoWay g key words
+    in_no_way way lt = ((l.exact words known).0 way (omega arith) lt).0
+
+    are_states : AreStates g words (first_way g key) states
+    are_states way lt = ((l.exact words known).0 way (omega arith) lt).1
+
+    free_way : (way : ℕ) → IsFirstFree states way → IsFreeWay g key words way
+    free_way way f =
+        let lt = f.inside in
+        record {
+          inside = lt;
+          free = sym (are_states way lt) ∙ f.free;
+          lowest = λ lower less eight. f.lowest lower less (are_states lower (omega (arith, less, lt)) ∙ eight);
+        }
+
+    no_free : NoneFree states → (way : ℕ) → way < 8 → state_in g words (first_way g key + way) ≢ 8
+    no_free none way lt eight = none way lt (are_states way lt ∙ eight)
+
+    no_arena : IsOrder g key.len order → (seen : List ℕ) → HasNoRoom g order ts seen → ((arena : ℕ) → arena < g.arenas → slice_index seen arena ≡ slice_index words arena) → HasNoArena g key words
+    no_arena is seen r same = (order, is, λ arena lt. let P : ℕ → Type 0 = λ n. IsBuddyAnswer 64 n order None in subst P (same arena lt) (r.none arena lt))
+
+    exact_why : IsOrder g key.len order → (why : Why) → IsPlacement files g id key order (first_way g key) states ts u w (placed.Bypass why) → IsExact g key words w (Bypass why)
+    exact_why is (NoRoom seen) p =
+        let x = p.exact words (l.exact words known).1 are_states in
+        (in_no_way, (x.0.0, free_way x.0.0 x.0.1), no_arena is seen p.tells x.1, x.2)
+    exact_why is (Raced saw) p = p.exact words (l.exact words known).1 are_states
+    exact_why is (Busy word) p = absurd p.tells
+    exact_why is (SetFull seen) p = (in_no_way, no_free p.tells.0, p.exact words (l.exact words known).1 are_states)
+    exact_why is PolicyOut p = p.tells
+
+    exact_filled : IsOrder g key.len order → (pin : Pin) → IsPlacement files g id key order (first_way g key) states ts u w (placed.Filled pin) → IsExact g key words w Filled
+    exact_filled is pin p =
+        let x = p.exact words (l.exact words known).1 are_states in
+        (in_no_way, (x.0, free_way x.0 x.3), (order, x.1, x.2, is, x.4))
+
+  pub filled : IsOrder g key.len order → (pin : Pin) → IsPlacement files g id key order (first_way g key) states ts u w (placed.Filled pin) → IsFetch files g id key (ss ++ ts) v w (record { how = Filled; evicted = 0; moved = 0; held = grip.Pin pin })
+  filled is pin p =
       record {
         right = right_whole ⊥ p.right;
         leaves = hold_since (pin_header pin) p.leaves;
         tells = nowhere;
         granted = λ b f there. inl tt;
         opened = λ h b cells there. tt;
+        exact = λ words known. exact_filled words known is pin p;
       }
 
   pub bypassed : IsOrder g key.len order → (why : Why) → IsPlacement files g id key order (first_way g key) states ts u w (placed.Bypass why) → IsFetch files g id key (ss ++ ts) v w (record { how = Bypass why; evicted = 0; moved = 0; held = grip.Bypass key })
@@ -190,6 +236,7 @@ module _ (files : Option Files) (g : Geometry) (id : ℕ) (key : Key) (order : �
               | inl front ↦ absurd (no_opens h b cells front)
               | inr rest ↦ p.opened h b cells rest
             ];
+        exact = λ words known. exact_why words known is why p;
       }
 
 -- ---- the file's bytes

@@ -21,12 +21,14 @@ use Rattle.cache_lookup.specs.Right.{AreRight}
 use Rattle.cache_lookup.specs.Sets.{IsWay}
 use Rattle.cache_lookup.specs.Trails.{Among, events, first_load, last_load}
 use Rattle.cache_placement.specs.declared.why.Why.TheVariants.{NoRoom, Raced, Busy, SetFull, PolicyOut}
-use Rattle.cache_placement.specs.Placements.{HasNoRoom, IsArenaRaced, IsHeaderRaced, IsOrder}
+use Rattle.cache_placement.specs.Free.{IsOrder}
+use Rattle.cache_placement.specs.Placements.{HasNoRoom, IsArenaRaced, IsHeaderRaced}
 use Rattle.cache_lookup.specs.Sets.{first_way}
 use Rattle.range_cache.specs.declared.ranged.How.{How}
 use Rattle.range_cache.specs.declared.ranged.How.TheVariants.{Hit, Filled, Bypass}
 use Rattle.range_cache.specs.declared.ranged.Ranged.{Ranged}
-use Rattle.range_cache.specs.Ranges.{IsHit, LeavesGrip}
+use Rattle.range_cache.specs.Exact.{IsExact}
+use Rattle.range_cache.specs.Ranges.{IsHit, Leaves}
 
 -- the key is a range of the file
 pub record IsOfFile (key : Key) (file : FileRef) : Type 0 where
@@ -76,19 +78,22 @@ abbrev pub IsLost : List WordStep → How → Type 0
 IsLost ss how = (header saw : ℕ) × (how ≡ Bypass (Raced saw)) × Among (Missed (State header) saw) ss
 
 -- The seat fetched a range by these steps, with that answer. A pin of the key makes it a hit; a grant makes it filled, or the
--- header was lost; and an opening makes it filled.
+-- header was lost; and an opening makes it filled. If the seat knows the words, the answer follows from them.
 pub record IsFetch (files : Option Files) (g : Geometry) (id : ℕ) (key : Key) (ss : List WordStep) (old new : View) (ranged : Ranged) : Type 0 where
   pub right : AreRight files g id key (IsHit ranged.how) old [] old ss new
-  pub leaves : LeavesGrip old new ranged.held
+  pub leaves : Leaves old new ranged
   pub tells : Tells g key ss ranged.how
   pub granted : (b : Block) (found : ℕ) → Among (Granted b found) ss → IsFilled ranged.how ⊎ IsLost ss ranged.how
   pub opened : (header : ℕ) (b : Block) (cells : List ℕ) → Among (Opened header b cells) ss → IsFilled ranged.how
+  pub exact : (words : List ℕ) → old.known ≡ Some words → IsExact g key words new ranged.how
 
--- A fetch whose read failed made loads alone, and counts that it took back: the seat has what it had.
+-- A fetch whose read failed made loads alone, and counts that it took back: the seat has what it had. If it
+-- knows the words, they are as they were.
 pub record IsFailedFetch (files : Option Files) (g : Geometry) (id : ℕ) (key : Key) (ss : List WordStep) (old new : View) : Type 0 where
   pub right : AreRight files g id key ⊥ old [] old ss new
   pub only : (s : WordStep) → Among s ss → IsLookStep s
   pub leaves : IsAsBefore old new
+  pub words : (words : List ℕ) → old.known ≡ Some words → new.known ≡ Some words
 
 -- some steps did
 abbrev pub Fetches : {W : Type 0} → Option Files → Pool W → PoolSeat W → PoolSeat W → Key → Ranged → Type 0

@@ -59,6 +59,9 @@ abbrev pub LeavesGrip : View → View → Grip → Type 0
 LeavesGrip old new (grip.Pin pin) = HasHoldMore old new (pin_header pin)
 LeavesGrip old new (grip.Bypass key) = IsAsBefore old new
 
+abbrev pub Leaves : View → View → Ranged → Type 0
+Leaves old new ranged = LeavesGrip old new ranged.held
+
 -- what a read asks of the scratch: that of a bypass has the key's length and, where files are told, its bytes
 abbrev pub ScratchFits : Option Files → Grip → List ℕ → Type 0
 ScratchFits files (grip.Pin pin) scratch = Unit {0}

@@ -37,10 +37,12 @@ pub struct Ranged {
 
 impl Ranged {
     ghost use Rattle.std.specs.Prelude.{◌≡◌, ◌+◌, ◌≤◌, length};
+    ghost use Rattle.pool_rule.specs.declared.view.View.{View};
     ghost use Rattle.buffer_pool.specs.Pools.{AreBytesOf, IsSameSeat, IsSeatOf, view};
+    ghost use Rattle.cache_lookup.specs.Before.{IsAsBefore};
     ghost use Rattle.range_cache.specs.declared.ranged.Grip.TheVariants as grip;
     ghost use Rattle.range_cache.specs.Caches.{pool_of};
-    ghost use Rattle.range_cache.specs.Ranges.{IsDone, IsRanged, IsReadable, IsReading, range_key};
+    ghost use Rattle.range_cache.specs.Ranges.{IsDone, IsRanged, IsReadable, IsReading, Leaves, range_key};
 
     /// A range that is held by a pin.
     pub(crate) fn pinned(how: How, pin: Pin) -> Ranged
@@ -87,6 +89,7 @@ impl Ranged {
         ensures ranged { IsRanged (pool_of cache.now) seat.new self.now }
         ensures len { length into.new ≡ length into.old }
         ensures content { AreBytesOf W.files (range_key self.now) at (length into.old) into.new }
+        ensures same { IsAsBefore (view seat.old) (view seat.new) }
         ensures reading { IsReading W.files (pool_of cache.now) seat.old seat.new self.now at into.new }
     {
         match &self.held {
@@ -98,13 +101,16 @@ impl Ranged {
         }
     }
 
-    /// Lets the range go. A pin is dropped, in one step; a bypass has nothing to drop.
+    /// Lets the range go. A pin is dropped, in one step; a bypass has nothing to drop. The seat then has what it had before the
+    /// range was fetched.
     pub fn done<W: World>(self, cache: &Cache<W>, seat: &mut PoolSeat<W>)
         requires seat { IsSeatOf (pool_of cache.now) seat.old }
         requires ranged { IsRanged (pool_of cache.now) seat.old self }
         ensures seat { IsSameSeat (pool_of cache.now) seat.old seat.new }
+        ensures back { (start : View) → Leaves start (view seat.old) self → IsAsBefore start (view seat.new) }
         ensures done { IsDone W.files (pool_of cache.now) seat.old seat.new self }
     {
+        cache_lookup::laws::holds_are_let_go();
         let Ranged {
             how: _,
             evicted: _,

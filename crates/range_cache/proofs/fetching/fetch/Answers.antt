@@ -13,7 +13,8 @@ use Rattle.cache_lookup.specs.Sets.{first_way}
 use Rattle.cache_placement.specs.declared.why.Placed.{Placed}
 use Rattle.cache_placement.specs.declared.why.Placed.TheVariants as placed
 use Rattle.cache_placement.specs.declared.why.Why.{Why}
-use Rattle.cache_placement.specs.Placements.{IsOrder, IsPlacement}
+use Rattle.cache_placement.specs.Free.{IsOrder}
+use Rattle.cache_placement.specs.Placements.{IsPlacement}
 use Rattle.range_cache.specs.declared.ranged.Grip.TheVariants as grip
 use Rattle.range_cache.specs.declared.ranged.How.TheVariants.{Bypass, Filled}
 use Rattle.range_cache.specs.declared.ranged.Ranged.{Ranged}
@@ -40,8 +41,8 @@ placement_at files g g' id id' key order first states u w r e f k p =
 as_range : (files : Option Files) (g : Geometry) (id : ℕ) (key : Key) (v w : View) (r s : Ranged) → r ≡ s → (ss : List WordStep) × IsFetch files g id key ss v w s → (ss : List WordStep) × IsFetch files g id key ss v w r
 as_range files g id key v w r s e f = let P : Ranged → Type 0 = λ x. IsFetch files g id key f.0 v w x in (f.0, subst P (sym e) f.1)
 
-then_filled : (files : Option Files) (g : Geometry) (id : ℕ) (key : Key) (order : ℕ) (states : List ℕ) (v u w : View) (pin : Pin) → ((ss : List WordStep) × IsLookUp files g id key ss states v u found.Missing) → ((ts : List WordStep) × IsPlacement files g id key order (first_way g key) states ts u w (placed.Filled pin)) → (ss : List WordStep) × IsFetch files g id key ss v w (record { how = Filled; evicted = 0; moved = 0; held = grip.Pin pin })
-then_filled files g id key order states v u w pin l p = (l.0 ++ p.0, filled files g id key order states l.0 p.0 v u w l.1 pin p.1)
+then_filled : (files : Option Files) (g : Geometry) (id : ℕ) (key : Key) (order : ℕ) (states : List ℕ) (v u w : View) (pin : Pin) → IsOrder g key.len order → ((ss : List WordStep) × IsLookUp files g id key ss states v u found.Missing) → ((ts : List WordStep) × IsPlacement files g id key order (first_way g key) states ts u w (placed.Filled pin)) → (ss : List WordStep) × IsFetch files g id key ss v w (record { how = Filled; evicted = 0; moved = 0; held = grip.Pin pin })
+then_filled files g id key order states v u w pin is l p = (l.0 ++ p.0, filled files g id key order states l.0 p.0 v u w l.1 is pin p.1)
 
 then_bypassed : (files : Option Files) (g : Geometry) (id : ℕ) (key : Key) (order : ℕ) (states : List ℕ) (v u w : View) (why : Why) → IsOrder g key.len order → ((ss : List WordStep) × IsLookUp files g id key ss states v u found.Missing) → ((ts : List WordStep) × IsPlacement files g id key order (first_way g key) states ts u w (placed.Bypass why)) → (ss : List WordStep) × IsFetch files g id key ss v w (record { how = Bypass why; evicted = 0; moved = 0; held = grip.Bypass key })
 then_bypassed files g id key order states v u w why is l p = (l.0 ++ p.0, bypassed files g id key order states l.0 p.0 v u w l.1 is why p.1)
@@ -67,7 +68,7 @@ returns-in-Filled-clause-fetched g c =
     let p = placement_at g.W.World.files (sizes_of (pool_of c.args.cache.now)) c.geometry-geometry.result (seat_id c.args.seat.now) (seat_id c.look_up.new.seat) c.args.key c.order_for-order.result c.first_header-first.result c.look_up.new.states (view c.look_up.new.seat) (view c.place.new.seat) (placed.Filled c.in-Filled.pin)
     c.look_up.ensures.seat.same c.first_header-first.ensures.first c.geometry-geometry.ensures.sizes c.in-Filled.ensures.placed in
     as_range g.W.World.files (sizes_of (pool_of c.args.cache.now)) (seat_id c.args.seat.now) c.args.key (view c.args.seat.now) (view c.place.new.seat) c.pinned-in-Filled.result _ c.pinned-in-Filled.ensures
-    (then_filled g.W.World.files (sizes_of (pool_of c.args.cache.now)) (seat_id c.args.seat.now) c.args.key c.order_for-order.result c.look_up.new.states (view c.args.seat.now) (view c.look_up.new.seat) (view c.place.new.seat) c.in-Filled.pin c.in-Missing.ensures.looked p)
+    (then_filled g.W.World.files (sizes_of (pool_of c.args.cache.now)) (seat_id c.args.seat.now) c.args.key c.order_for-order.result c.look_up.new.states (view c.args.seat.now) (view c.look_up.new.seat) (view c.place.new.seat) c.in-Filled.pin (order_is (sizes_of (pool_of c.args.cache.now)) c.geometry-geometry.result c.args.key.len c.order_for-order.result c.geometry-geometry.ensures.sizes c.requires.fits c.order_for-order.ensures.holds c.order_for-order.ensures.least) c.in-Missing.ensures.looked p)
 
 pub returns-in-Filled-clause-bytes : goal.returns-in-Filled-clause-bytes
 returns-in-Filled-clause-bytes g c =

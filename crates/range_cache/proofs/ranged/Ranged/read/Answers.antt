@@ -3,10 +3,13 @@ use Rattle.std.specs.Prelude.{Option, slice_range}
 use Rattle.std.proofs.lemmas.List.{drop-drop, drop-take, take-take}
 use Rattle.buffer_word.specs.declared.key_word.Key.{Key}
 use Rattle.pool_model.specs.Content.{Files}
-use Rattle.buffer_pool.specs.Pools.{AreBytesOf}
+use Rattle.buffer_pool.specs.Pools.{AreBytesOf, seat_id, sizes_of, view}
+use Rattle.cache_lookup.specs.Callers.{as_before}
 use Rattle.range_cache.specs.declared.ranged.Grip.{Grip}
 use Rattle.range_cache.specs.declared.ranged.Grip.TheVariants as grip
+use Rattle.range_cache.specs.Caches.{pool_of}
 use Rattle.range_cache.specs.Ranges.{ScratchFits, key_of_grip}
+use Rattle.range_cache.proofs.Loads.{loads_same}
 use Rattle.range_cache.proofs.ranged.Ranged.read.Goals as goal
 
 -- a part of a range is a range
@@ -31,3 +34,11 @@ copied files (grip.Bypass k) key scratch into at len e fits inside is file told 
 pub returns-in-Bypass-clause-content : goal.returns-in-Bypass-clause-content
 returns-in-Bypass-clause-content g c =
     copied g.W.World.files c.args.self.now.held c.in-Bypass.field-0 c.args.scratch.now c.copy_from_slice.new.self c.args.at (length c.args.into.now) c.in-Bypass.is c.requires.scratch c.requires.range c.copy_from_slice.ensures.after
+
+pub returns-in-Bypass-clause-same : goal.returns-in-Bypass-clause-same
+returns-in-Bypass-clause-same g c = as_before (view c.args.seat.now)
+
+pub returns-in-Pin-clause-same : goal.returns-in-Pin-clause-same
+returns-in-Pin-clause-same g c =
+    let made = c.read.ensures.made in
+    loads_same g.W.World.files (sizes_of (pool_of c.args.cache.now)) (seat_id c.args.seat.now) (view c.args.seat.now) _ made.0 (view c.args.seat.now) (view c.read.new.seat) made.1.loads (as_before (view c.args.seat.now))
