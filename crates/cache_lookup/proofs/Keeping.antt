@@ -195,6 +195,17 @@ module _ (files : Option Files) (g : Geometry) (id : ℕ) (s : WordStep) (start 
   others_on : ((other : ℕ) → other ≢ header → (mark_at v other).hold ≡ (mark_at start other).hold) → (other : ℕ) → other ≢ header → (mark_at w other).hold ≡ (mark_at start other).hold
   others_on c other apart = ap (λ (x : Mark). x.hold) (there other apart) ∙ c other apart
 
+-- a count is taken back
+pub let_go : (files : Option Files) (g : Geometry) (id header found : ℕ) (start v w : View) → header < length v.marks → (mark_at v header).hold ≢ Free → IsMade files g id (Uncounted header found) v w → HasHoldMore start v header → IsAsBefore start w
+let_go files g id header found start v w within counted m c =
+    let s = Uncounted header found in
+    let here = uncounted_here files g id header found v w within m counted in
+    record {
+      claims = claims_on files g id s start v w m header refl refl (ap (λ (x : Mark). bare x.claim) here) c.claims;
+      grants = grants_on files g id s start v w m header refl refl c.grants;
+      holds = holds_on files g id s start v w m header refl refl (ap (λ (x : Mark). x.hold) here ∙ sym c.was) c.others;
+    }
+
 module _ (files : Option Files) (g : Geometry) (id : ℕ) (start : View) (header found : ℕ) (inside : header < length start.marks) where
   within_of : (v : View) → length v.marks ≡ length start.marks → header < length v.marks
   within_of v e = let P : ℕ → Type 0 = λ n. header < n in subst P (sym e) inside
@@ -256,16 +267,7 @@ module _ (files : Option Files) (g : Geometry) (id : ℕ) (start : View) (header
   pub kept_back : (v w : View) → IsMade files g id (Uncounted header found) v w → HasCount start v header → IsKept start w
   kept_back v w m c =
       let within = within_of v c.marks in
-      let s = Uncounted header found in
-      let here = uncounted_here files g id header found v w within m c.counted in
-      record {
-        same = record {
-          claims = claims_on files g id s start v w m header refl refl (ap (λ (x : Mark). bare x.claim) here) c.more.claims;
-          grants = grants_on files g id s start v w m header refl refl c.more.grants;
-          holds = holds_on files g id s start v w m header refl refl (ap (λ (x : Mark). x.hold) here ∙ sym c.more.was) c.more.others;
-        };
-        marks = uncounted_marks files g id header found v w within m ∙ c.marks;
-      }
+      record { same = let_go files g id header found start v w within c.counted m c.more; marks = uncounted_marks files g id header found v w within m ∙ c.marks }
 
 -- ---- where the key word shows a key of which the seat has no pin, it has nothing of the header's count
 

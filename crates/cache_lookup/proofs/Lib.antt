@@ -1,3 +1,4 @@
 pub mod Keeping
 pub mod Walks
 pub mod Showing
+pub mod Knowing

@@ -1,23 +1,31 @@
 -- For those who make steps before or after a look-up: each step right, and what the seat has, over several of them.
-use Rattle.std.specs.Prelude.{◌≡◌, ◌≢◌, ℕ, List, [], ◌∷◌, ◌++◌, Option, None}
+use Rattle.std.specs.Prelude.{◌≡◌, ◌≢◌, ℕ, List, [], ◌∷◌, ◌++◌, Option, None, Some, IfSome, option_map, slice_index, slice_set}
 use Rattle.std.proofs.Common.{refl, sym, ◌∙◌, ap, subst, inl, inr}
-use Rattle.std.proofs.lemmas.List.{append_assoc, append-nil}
+use Rattle.std.proofs.lemmas.Bool.{cases_eq}
+use Rattle.std.proofs.lemmas.List.{append_assoc, append-nil, set-get_or}
 use Rattle.std.proofs.lemmas.Option.{none-some}
 use Rattle.buffer_word.specs.declared.key_word.Key.{Key}
 use Rattle.buffer_word.specs.KeyWord.{key_word}
+use Rattle.pool_model.specs.declared.block.Block.{Block}
+use Rattle.pool_model.specs.declared.buffer.BufferKey.{BufferKey}
 use Rattle.pool_model.specs.Content.{Files}
 use Rattle.pool_rule.specs.declared.geometry.Geometry.{Geometry}
 use Rattle.pool_rule.specs.declared.geometry.WordName.{WordName}
 use Rattle.pool_rule.specs.declared.geometry.WordName.TheVariants.{Arena, State, KeyOf}
+use Rattle.pool_rule.specs.declared.view.Claim.{Claim}
+use Rattle.pool_rule.specs.declared.view.Claim.TheVariants.{Unclaimed, Fresh, Gone, Carried}
+use Rattle.pool_rule.specs.declared.view.Hold.{Hold}
+use Rattle.pool_rule.specs.declared.view.Hold.TheVariants.{Free, Pinned}
 use Rattle.pool_rule.specs.declared.view.Mark.{Mark}
 use Rattle.pool_rule.specs.declared.view.View.{View}
 use Rattle.pool_rule.specs.declared.word_step.WordStep.{WordStep}
 use Rattle.pool_rule.specs.declared.word_step.WordStep.TheVariants.{Looked, Counted}
-use Rattle.pool_rule.specs.Seats.{granted_at, mark_at}
-use Rattle.pool_rule.specs.WordSteps.{IsMade}
-use Rattle.buffer_pool.specs.Callers.{made_granted, made_mark}
+use Rattle.pool_rule.specs.Seats.{HasNothing, clear_mark, granted_at, mark_at}
+use Rattle.pool_rule.specs.Layout.{index_of}
+use Rattle.pool_rule.specs.WordSteps.{IsMade, found_by, left_by, word_at}
+use Rattle.buffer_pool.specs.Callers.{made_granted, made_known, made_mark}
 use Rattle.buffer_pool.specs.Made.{AreMade, header_of, place_of}
-use Rattle.cache_lookup.specs.Before.{IsAsBefore, bare}
+use Rattle.cache_lookup.specs.Before.{HasHoldMore, HasNoPinOf, IsAsBefore, IsNoPinOf, bare}
 use Rattle.cache_lookup.specs.Right.{AreRight, IsRight, IsShown}
 use Rattle.cache_lookup.specs.TrailLaws.{among_back}
 
@@ -40,6 +48,55 @@ before_made files g id s start v w m no_header no_place c =
       grants = λ place. granted place ∙ c.grants place;
       holds = λ header. ap (λ (x : Mark). x.hold) (mark header) ∙ c.holds header;
     }
+
+-- a seat with nothing has no pin, and has nothing as long as it has what it had
+pub nothing_no_pin : (key : BufferKey) (v : View) → HasNothing v → HasNoPinOf key v
+nothing_no_pin key v h header =
+    let P : Mark → Type 0 = λ x. IsNoPinOf key x.hold in
+    subst P (sym (h.marks header)) tt
+
+bare_free : (c : Claim) → bare c ≡ Unclaimed → c ≡ Unclaimed
+bare_free Unclaimed e = refl
+bare_free (Fresh b key done) e = absurd (let clash : ⊥ = cc in clash)
+bare_free (Gone b) e = absurd (let clash : ⊥ = cc in clash)
+bare_free (Carried b target key done next) e = absurd (let clash : ⊥ = cc in clash)
+
+clear_of : (m : Mark) → m.hold ≡ Free → m.claim ≡ Unclaimed → m ≡ clear_mark
+clear_of m h c = λ i. record { hold = h i; claim = c i }
+
+pub nothing_again : (start v : View) → HasNothing start → IsAsBefore start v → HasNothing v
+nothing_again start v h c =
+    record {
+      marks = λ header.
+          clear_of (mark_at v header) (c.holds header ∙ ap (λ (x : Mark). x.hold) (h.marks header)) (bare_free (mark_at v header).claim (c.claims header ∙ ap (λ (x : Mark). bare x.claim) (h.marks header)));
+      granted = λ place. c.grants place ∙ h.granted place;
+    }
+
+-- a pin of another key is none of this
+pub no_pin_more : (key k : BufferKey) (b : Block) (header : ℕ) (start v : View) → HasNoPinOf key start → HasHoldMore start v header → (mark_at v header).hold ≡ Pinned b (Some k) → k ≢ key → HasNoPinOf key v
+no_pin_more key k b header start v none more is other h =
+    let P : Hold → Type 0 = λ x. IsNoPinOf key x in
+    elim (cases_eq h header) [
+      | inl same ↦ subst P (sym (ap (λ n. (mark_at v n).hold) same ∙ is)) other
+      | inr apart ↦ subst P (sym (more.others h apart)) (none h)
+    ]
+
+-- ---- known words through a step
+
+found_in : (word f : ℕ) (ws : List ℕ) (k : Option (List ℕ)) → k ≡ Some ws → IfSome k (λ l. slice_index l word ≡ f) → slice_index ws word ≡ f
+found_in word f ws k e told = let P : Option (List ℕ) → Type 0 = λ o. IfSome o (λ l. slice_index l word ≡ f) in subst P e told
+
+pub known_found : (files : Option Files) (g : Geometry) (id : ℕ) (s : WordStep) (v w : View) (ws : List ℕ) → v.known ≡ Some ws → IsMade files g id s v w → slice_index ws (word_at g s) ≡ found_by s
+known_found files g id s v w ws e m = found_in (word_at g s) (found_by s) ws v.known e m.told
+
+pub known_left : (files : Option Files) (g : Geometry) (id : ℕ) (s : WordStep) (v w : View) (ws : List ℕ) → v.known ≡ Some ws → IsMade files g id s v w → w.known ≡ Some (slice_set ws (word_at g s) (left_by s))
+known_left files g id s v w ws e m = made_known files g id s v w m ∙ ap (option_map (λ l. slice_set l (word_at g s) (left_by s))) e
+
+-- a load changes no word
+pub known_looked : (files : Option Files) (g : Geometry) (id : ℕ) (word : WordName) (f : ℕ) (v w : View) (ws : List ℕ) → v.known ≡ Some ws → IsMade files g id (Looked word f) v w → w.known ≡ Some ws
+known_looked files g id word f v w ws e m =
+    let s = Looked word f in
+    known_left files g id s v w ws e m ∙ ap Some (ap (slice_set ws (index_of g word)) (sym (known_found files g id s v w ws e m)) ∙ set-get_or ws (index_of g word) 0)
 
 -- ---- steps that are right
 
@@ -126,4 +183,4 @@ right_any files g id key hit hit' f start before (s ∷ ss) v w all =
     } in
     (all.0, all.1, wider, right_any files g id key hit hit' f start (before ++ s ∷ []) ss all.0 w all.3)
 
-pub ruleset callers = (as_before, before_then, before_made, right_arena, right_else, right_made, right_then, right_parts, right_any)
+pub ruleset callers = (known_found, known_left, known_looked, as_before, before_then, before_made, nothing_no_pin, nothing_again, no_pin_more, right_arena, right_else, right_made, right_then, right_parts, right_any)

@@ -3,6 +3,8 @@ pub mod Trails
 pub mod TrailLaws
 pub mod Before
 pub mod Right
+pub mod Exact
 pub mod LookUps
 pub mod Tries
 pub mod Callers
+pub mod Laws

@@ -19,6 +19,7 @@ use Rattle.buffer_pool.specs.Pools.{IsPinOf, pin_header, pin_key, seat_id, sizes
 use Rattle.cache_lookup.specs.declared.ways.Found.{Found}
 use Rattle.cache_lookup.specs.declared.ways.Found.TheVariants.{Hit, Busy, Missing}
 use Rattle.cache_lookup.specs.Before.{HasHoldMore, IsAsBefore}
+use Rattle.cache_lookup.specs.Exact.{IsExact}
 use Rattle.cache_lookup.specs.Right.{AreRight, HasMode}
 use Rattle.cache_lookup.specs.Sets.{IsWay, first_way}
 use Rattle.cache_lookup.specs.Trails.{Among, events, first_load, last_load}
@@ -75,12 +76,13 @@ pub data IsLookStep : WordStep → Type 0 where
   count : (header found : ℕ) → IsLookStep (Counted header found)
   back : (header found : ℕ) → IsLookStep (Uncounted header found)
 
--- The seat looked a key up by these steps, with that answer.
+-- The seat looked a key up by these steps, with that answer. If it knows the words, the answer follows from them.
 pub record IsLookUp (files : Option Files) (g : Geometry) (id : ℕ) (key : Key) (ss : List WordStep) (states : List ℕ) (old new : View) (found : Found) : Type 0 where
   pub right : AreRight files g id key (IsHit found) old [] old ss new
   pub only : (s : WordStep) → Among s ss → IsLookStep s
   pub leaves : Leaves old new found
   pub tells : Tells g key ss states found
+  pub exact : (words : List ℕ) → old.known ≡ Some words → IsExact g key words (first_way g key) 0 states new found
 
 -- some steps did
 abbrev pub LooksUp : {W : Type 0} → Option Files → Pool W → PoolSeat W → PoolSeat W → Key → List ℕ → Found → Type 0

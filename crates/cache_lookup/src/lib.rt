@@ -4,6 +4,7 @@
 //! where one of the set's ways shows that key. A look-up makes single steps on the pool's words, while other seats make theirs.
 #![tactic(auto)]
 
+pub mod laws;
 mod set;
 mod ways;
 

@@ -1,4 +1,4 @@
-use Rattle.std.proofs.Common.{◌≡◌, ℕ, ◌+◌, ◌≤◌, List, [], length, arith}
+use Rattle.std.proofs.Common.{◌≡◌, ℕ, ◌+◌, ◌≤◌, List, [], length, arith, subst}
 use Rattle.std.specs.Prelude.{Option}
 use Rattle.buffer_word.specs.declared.key_word.Key.{Key}
 use Rattle.buffer_word.specs.Changes.{WordTellsKey}
@@ -12,10 +12,12 @@ use Rattle.buffer_pool.specs.Bids.{HasNoBid}
 use Rattle.buffer_pool.specs.Pools.{buffer_key, seat_id, sizes_of, view}
 use Rattle.cache_lookup.specs.declared.ways.Found.{Found}
 use Rattle.cache_lookup.specs.Before.{HasNoPinOf}
+use Rattle.cache_lookup.specs.Exact.{IsExact}
 use Rattle.cache_lookup.specs.LookUps.{IsHit, IsLookUp}
 use Rattle.cache_lookup.specs.Sets.{first_way}
 use Rattle.cache_lookup.specs.Tries.{Looks}
 use Rattle.cache_lookup.proofs.Keeping.{kept_at_start}
+use Rattle.cache_lookup.proofs.Knowing.{look_exact}
 use Rattle.cache_lookup.proofs.Showing.{look_only, look_tells}
 use Rattle.cache_lookup.proofs.Walks.{leaves, look_walk}
 use Rattle.cache_lookup.proofs.ways.look_up.Goals as goal
@@ -31,6 +33,9 @@ looked_up law files g id key first states v w r good is inside marks no_pin no_b
         only = look_only key first states 0 l.0 r l.2;
         leaves = leaves files g id key v first states law good no_pin no_bid within is w r walk.keeps;
         tells = look_tells g key first states l.0 r is l.2;
+        exact = λ words known.
+            let P : ℕ → Type 0 = λ n. IsExact g key words n 0 states w r in
+            subst P is (look_exact files g id key words first states 0 v w l.0 r known l.1 l.2);
       },
     )
 
