@@ -18,7 +18,8 @@ use Rattle.cache_lookup.specs.TrailLaws.{AreNoLoads, among_back, among_either, l
 use Rattle.cache_placement.specs.declared.arenas.Asked.{Asked}
 use Rattle.cache_placement.specs.declared.arenas.Asked.TheVariants as asked
 use Rattle.cache_placement.specs.declared.why.Placed.{Placed}
-use Rattle.cache_placement.specs.Placements.{IsArenaRaced, IsFilled, IsFirstFree, IsHeaderRaced, IsLost, Tells}
+use Rattle.cache_placement.specs.Free.{IsFirstFree}
+use Rattle.cache_placement.specs.Placements.{IsArenaRaced, IsFilled, IsHeaderRaced, IsLost, Tells}
 use Rattle.cache_placement.specs.Steps.{AskSteps, OpenSteps, PlaceSteps, none_left, full, got, raced, lost, filled, set_full, no_room, arena_raced, opens}
 
 abbrev IsFull : Asked → Type 0
@@ -123,19 +124,19 @@ module _ (key : Key) (header : ℕ) (b : Block) where
   -- a header that was granted a block is filled or lost
   open_answer : (xs ts : List WordStep) (r : Placed) → OpenSteps key header b ts r → IsFilled r ⊎ IsLost (xs ++ ts) r
   open_answer xs ts r (lost saw found far) = inr (header, saw, refl, among_back (step.Missed (State header) saw) xs _ (inl refl))
-  open_answer xs ts r (filled cells bytes found named published pin is) = inl tt
+  open_answer xs ts r (filled cells bytes found named published pin is its) = inl tt
 
   open_opens : (h : ℕ) (c : Block) (cells : List ℕ) (ts : List WordStep) (r : Placed) → OpenSteps key header b ts r → Among (step.Opened h c cells) ts → IsFilled r
   open_opens h c cells ts r (lost saw found far) (inl e) = absurd (let no : ⊥ = cc in no)
   open_opens h c cells ts r (lost saw found far) (inr (inl e)) = absurd (let no : ⊥ = cc in no)
   open_opens h c cells ts r (lost saw found far) (inr (inr gone)) = absurd gone
-  open_opens h c cells ts r (filled all bytes found named published pin is) there = tt
+  open_opens h c cells ts r (filled all bytes found named published pin is its) there = tt
 
   open_tells : (g : Geometry) (order first way : ℕ) (states : List ℕ) (xs ts : List WordStep) (r : Placed) → header ≡ first + way → IsFirstFree states way → OpenSteps key header b ts r → Tells g order first states (xs ++ ts) r
   open_tells g order first way states xs ts r at free (lost saw found far) =
       let P : ℕ → Type 0 = λ n. IsHeaderRaced n (xs ++ ts) saw in
       inr (way, free, subst P at (record { missed = among_back (step.Missed (State header) saw) xs _ (inl refl); other = far }))
-  open_tells g order first way states xs ts r at free (filled cells bytes found named published pin is) = tt
+  open_tells g order first way states xs ts r at free (filled cells bytes found named published pin is its) = tt
 
 -- ---- the whole
 

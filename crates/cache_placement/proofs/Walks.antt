@@ -124,7 +124,7 @@ module _ (files : Option Files) (g : Geometry) (id : ℕ) (key : Key) (hit : Typ
         right = right_all before (step.Missed (State header) saw ∷ step.Returned b found ∷ []) v w only all;
         leaves = subst P (sym all.2.2) (same_returned files g id start all.0 all.2.0 b found all.2.1 still);
       }
-  open_walk header b before v w ss r inside c all (filled cells bytes found named published pin is) =
+  open_walk header b before v w ss r inside c all (filled cells bytes found named published pin is its) =
       let k = buffer_key key in
       let fills = fill_steps header b k (cell_in bytes) 0 found in
       let p = parts fills (step.Published header b k published ∷ []) all.2.0 w all.2.2 in

@@ -1,2 +1,4 @@
+pub mod Free
+pub mod Exact
 pub mod Placements
 pub mod Steps

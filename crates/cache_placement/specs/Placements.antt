@@ -9,7 +9,6 @@ use Rattle.pool_rule.specs.declared.geometry.WordName.TheVariants.{Arena, State}
 use Rattle.pool_rule.specs.declared.view.View.{View}
 use Rattle.pool_rule.specs.declared.word_step.WordStep.{WordStep}
 use Rattle.pool_rule.specs.declared.word_step.WordStep.TheVariants.{Missed, Granted, Opened}
-use Rattle.pool_rule.specs.Layout.{greatest_order}
 use Rattle.buffer_pool.specs.declared.pool.Pool.{Pool}
 use Rattle.buffer_pool.specs.declared.seat.PoolSeat.{PoolSeat}
 use Rattle.buffer_pool.specs.Pools.{pin_header, seat_id, sizes_of, view}
@@ -20,22 +19,8 @@ use Rattle.cache_lookup.specs.Trails.{Among, events, last_left, last_load}
 use Rattle.cache_placement.specs.declared.why.Placed.{Placed}
 use Rattle.cache_placement.specs.declared.why.Placed.TheVariants.{Filled, Bypass}
 use Rattle.cache_placement.specs.declared.why.Why.TheVariants.{NoRoom, Raced, Busy, SetFull, PolicyOut}
-
--- the order of the least block that holds so many bytes
-pub record IsOrder (g : Geometry) (len order : ℕ) : Type 0 where
-  pub fits : order ≤ greatest_order
-  pub room : len ≤ g.min_block * 2 ^ order
-  pub least : (k : ℕ) → len ≤ g.min_block * 2 ^ k → order ≤ k
-
--- the lowest way whose state is that of a released header without a count
-pub record IsFirstFree (states : List ℕ) (way : ℕ) : Type 0 where
-  pub inside : way < 8
-  pub free : slice_index states way ≡ 8
-  pub lowest : (lower : ℕ) → lower < way → slice_index states lower ≢ 8
-
--- no way's state is
-abbrev pub NoneFree : List ℕ → Type 0
-NoneFree states = (way : ℕ) → way < 8 → slice_index states way ≢ 8
+use Rattle.cache_placement.specs.Exact.{AreStates, IsExact}
+use Rattle.cache_placement.specs.Free.{IsFirstFree, NoneFree}
 
 -- The words are the last loads of the arenas' words, and no arena has a free block of the order by them. Past the last arena
 -- they are all ones.
@@ -91,12 +76,14 @@ HoldsPlaced pool seat key (Filled pin) = IsPinFor pool seat key pin
 HoldsPlaced pool seat key (Bypass why) = Unit {0}
 
 -- The seat placed a range by these steps, with that answer. A grant makes the answer that the range is filled, or that the header was lost, and an opening that it is filled.
+-- If the seat knows the words, and the states are theirs, the answer follows from them.
 pub record IsPlacement (files : Option Files) (g : Geometry) (id : ℕ) (key : Key) (order first : ℕ) (states : List ℕ) (ss : List WordStep) (old new : View) (placed : Placed) : Type 0 where
   pub right : AreRight files g id key ⊥ old [] old ss new
   pub leaves : Leaves old new placed
   pub tells : Tells g order first states ss placed
   pub granted : (b : Block) (found : ℕ) → Among (Granted b found) ss → IsFilled placed ⊎ IsLost ss placed
   pub opened : (header : ℕ) (b : Block) (cells : List ℕ) → Among (Opened header b cells) ss → IsFilled placed
+  pub exact : (words : List ℕ) → old.known ≡ Some words → AreStates g words first states → IsExact g order words first states new placed
 
 -- some steps did
 abbrev pub PlacesRange : {W : Type 0} → Option Files → Pool W → PoolSeat W → PoolSeat W → Key → ℕ → ℕ → List ℕ → Placed → Type 0

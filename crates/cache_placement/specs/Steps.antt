@@ -14,14 +14,14 @@ use Rattle.buffer_pool.specs.declared.token.Pin.{Pin}
 use Rattle.buffer_pool.specs.declared.pool.Pool.{Pool}
 use Rattle.buffer_pool.specs.declared.seat.PoolSeat.{PoolSeat}
 use Rattle.buffer_pool.specs.Made.{AreMade, cell_in, fill_steps}
-use Rattle.buffer_pool.specs.Pools.{IsGrantOf, block_at, block_of, buffer_key, pin_header}
+use Rattle.buffer_pool.specs.Pools.{IsGrantOf, block_at, block_of, buffer_key, pin_block, pin_header}
 use Rattle.cache_placement.specs.declared.arenas.Asked.{Asked}
 use Rattle.cache_placement.specs.declared.arenas.Asked.TheVariants.{Got, Full}
 use Rattle.cache_placement.specs.declared.arenas.Asked.TheVariants as asked
 use Rattle.cache_placement.specs.declared.why.Placed.{Placed}
 use Rattle.cache_placement.specs.declared.why.Placed.TheVariants.{Filled, Bypass}
 use Rattle.cache_placement.specs.declared.why.Why.TheVariants.{NoRoom, Raced, SetFull}
-use Rattle.cache_placement.specs.Placements.{IsFirstFree, NoneFree}
+use Rattle.cache_placement.specs.Free.{IsFirstFree, NoneFree}
 
 -- the arenas from one on are asked in order; `words` has each word that was loaded
 pub data AskSteps (g : Geometry) (order : ℕ) (words : List ℕ) : ℕ → List WordStep → Asked → Type 0 where
@@ -36,7 +36,7 @@ pub data AskSteps (g : Geometry) (order : ℕ) (words : List ℕ) : ℕ → List
 -- the header is lost and the block given back; or it is opened, named, filled and published
 pub data OpenSteps (key : Key) (header : ℕ) (b : Block) : List WordStep → Placed → Type 0 where
   lost : (saw found : ℕ) → saw ≢ 8 → OpenSteps key header b (Missed (State header) saw ∷ Returned b found ∷ []) (Bypass (Raced saw))
-  filled : (cells bytes found : List ℕ) (named published : ℕ) (pin : Pin) → pin_header pin ≡ header
+  filled : (cells bytes found : List ℕ) (named published : ℕ) (pin : Pin) → pin_header pin ≡ header → pin_block pin ≡ b
       → OpenSteps key header b (Opened header b cells ∷ Named header b (buffer_key key) named ∷ (fill_steps header b (buffer_key key) (cell_in bytes) 0 found ++ Published header b (buffer_key key) published ∷ [])) (Filled pin)
 
 -- a header, a block, and a buffer of both

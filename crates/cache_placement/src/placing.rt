@@ -4,7 +4,8 @@ ghost use Rattle.buffer_word.specs.KeyWord.{IsKey};
 ghost use Rattle.pool_model.specs.Content.{IsRange};
 ghost use Rattle.pool_rule.specs.Layout.{headers_of};
 ghost use Rattle.buffer_pool.specs.Pools.{IsContentOf, IsSameSeat, IsSeatOf, buffer_key, seat_id, sizes_of, view};
-ghost use Rattle.cache_placement.specs.Placements.{HoldsPlaced, IsFirstFree, IsOrder, NoneFree, PlacesRange};
+ghost use Rattle.cache_placement.specs.Free.{IsFirstFree, IsOrder, NoneFree};
+ghost use Rattle.cache_placement.specs.Placements.{HoldsPlaced, PlacesRange};
 ghost use Rattle.cache_placement.specs.Steps.{Places};
 
 use crate::arenas::{Asked, ask};

@@ -11,6 +11,7 @@ use Rattle.cache_placement.specs.declared.why.Placed.{Placed}
 use Rattle.cache_placement.specs.Placements.{IsPlacement}
 use Rattle.cache_placement.specs.Steps.{Places}
 use Rattle.cache_placement.proofs.Blocks.{kept_at_start}
+use Rattle.cache_placement.proofs.Knowing.{place_exact}
 use Rattle.cache_placement.proofs.Showing.{place_granted, place_opened, place_tells}
 use Rattle.cache_placement.proofs.Walks.{place_walk}
 use Rattle.cache_placement.proofs.placing.place.Goals as goal
@@ -26,6 +27,7 @@ placed files g id key order first states v w r inside marks p =
         tells = place_tells g key order first states p.0 r p.2;
         granted = place_granted g key order first states p.0 r p.2;
         opened = place_opened g key order first states p.0 r p.2;
+        exact = λ words known are. place_exact files g id key order words first states are v w p.0 r known p.1 p.2;
       },
     )
 

@@ -11,7 +11,7 @@ use Rattle.buffer_pool.specs.Made.{AreMade}
 use Rattle.buffer_pool.specs.Pools.{block_of, sizes_of}
 use Rattle.cache_placement.specs.declared.arenas.Asked.TheVariants.{Got}
 use Rattle.cache_placement.specs.declared.why.Placed.{Placed}
-use Rattle.cache_placement.specs.Placements.{IsFirstFree}
+use Rattle.cache_placement.specs.Free.{IsFirstFree}
 use Rattle.cache_placement.specs.Steps.{Asks, Opens, Places, arena_raced, no_room, opens, set_full}
 use Rattle.cache_placement.proofs.placing.place_by_steps.Goals as goal
 
