@@ -1,0 +1,120 @@
+-- Rows that pass one test more.
+use Rattle.std.proofs.Common.{◌≡◌, ◌&&◌, not, ℕ, zero, suc, ◌+◌, ◌<◌, ◌≤◌, Bool, true, false, List, [], ◌∷◌, length, map, get_or, set, slice_get, replicate, ⊎_elim, Option, Some, None, if◌then◌else◌, refl, sym, ◌∙◌, ap, arith}
+use Rattle.std.proofs.lemmas.List.{ext_get_or, get_or-set_same, get_or-set_other}
+use Rattle.std.proofs.lemmas.Bool.{cases_eq}
+use Rattle.orc_values.specs.Woven.{aligned}
+use Rattle.batch_masks.specs.Kept.{both}
+use Rattle.orc_values.specs.Column.{value_by}
+use Rattle.orc_values.specs.declared.value.Value.{Value}
+use Rattle.orc_values.specs.declared.value.Value.TheVariants as value
+use Rattle.batch_masks.specs.Checks.{option_holds, present_holds}
+
+pub both-length : (mask others : List Bool) → length mask ≡ length others → length (both mask others) ≡ length mask
+both-length [] others len = refl
+both-length (p ∷ mask) [] len = absurd (omega arith)
+both-length (p ∷ mask) (q ∷ others) len = omega (arith, both-length mask others (omega arith))
+
+pub both-at : (mask others : List Bool) (k : ℕ) → length mask ≡ length others → k < length mask → get_or (both mask others) k false ≡ (get_or mask k false && get_or others k false)
+both-at [] others k len lt = absurd (omega arith)
+both-at (p ∷ mask) [] k len lt = absurd (omega arith)
+both-at (p ∷ mask) (q ∷ others) zero len lt = refl
+both-at (p ∷ mask) (q ∷ others) (suc k) len lt = both-at mask others k (omega arith) (omega arith)
+
+-- a mask is known by its flags
+pub narrowed : (now mask others : List Bool) → length mask ≡ length others → length now ≡ length mask
+    → ((k : ℕ) → k < length mask → get_or now k false ≡ (get_or mask k false && get_or others k false))
+    → now ≡ both mask others
+narrowed now mask others len same at =
+    ext_get_or false now (both mask others) (same ∙ sym (both-length mask others len))
+    (λ k lt. at k (omega arith) ∙ sym (both-at mask others k len (omega arith)))
+
+module _ (now mask others : List Bool) (i : ℕ) (y : Bool) where
+  -- one flag more is done
+  pub narrow_done : i < length now
+      → ((k : ℕ) → k < i → get_or now k false ≡ (get_or mask k false && get_or others k false))
+      → ((k : ℕ) → i ≤ k → get_or now k false ≡ get_or mask k false)
+      → y ≡ (get_or now i false && get_or others i false)
+      → (k : ℕ) → k < i + 1 → get_or (set now i y) k false ≡ (get_or mask k false && get_or others k false)
+  narrow_done lt done rest is k h = ⊎_elim
+      (λ e. rw e (get_or-set_same now i y false lt ∙ is ∙ ap (λ (b : Bool). b && get_or others i false) (rest i (omega arith))))
+      (λ ne. get_or-set_other now i k y false ne ∙ done k (omega (arith, ne)))
+      (cases_eq k i)
+
+  -- and those behind it stay
+  pub narrow_rest : ((k : ℕ) → i ≤ k → get_or now k false ≡ get_or mask k false)
+      → (k : ℕ) → i + 1 ≤ k → get_or (set now i y) k false ≡ get_or mask k false
+  narrow_rest rest k h = get_or-set_other now i k y false (λ e. omega (arith, e)) ∙ rest k (omega arith)
+
+module _ {A : Type 0} (asked : A → Bool) where
+  pub present-length : (present : List Bool) (entries : List A) → length present ≡ length entries → length (present_holds asked present entries) ≡ length entries
+  present-length [] [] len = refl
+  present-length [] (x ∷ entries) len = absurd (omega arith)
+  present-length (p ∷ present) [] len = absurd (omega arith)
+  present-length (p ∷ present) (x ∷ entries) len = omega (arith, present-length present entries (omega arith))
+
+  stands : (p : Bool) (x : A) → option_holds asked (if p then Some x else None) ≡ (p && asked x)
+  stands true x = refl
+  stands false x = refl
+
+  pub present-at : (present : List Bool) (entries : List A) (k : ℕ) (d : A) → length present ≡ length entries → k < length entries
+      → get_or (present_holds asked present entries) k false ≡ (get_or present k false && asked (get_or entries k d))
+  present-at present [] k d len lt = absurd (omega arith)
+  present-at [] (x ∷ entries) k d len lt = absurd (omega arith)
+  present-at (p ∷ present) (x ∷ entries) zero d len lt = stands p x
+  present-at (p ∷ present) (x ∷ entries) (suc k) d len lt = present-at present entries k d (omega arith) (omega arith)
+
+pub and_assoc : (a b c : Bool) → ((a && b) && c) ≡ (a && (b && c))
+and_assoc true b c = refl
+and_assoc false b c = refl
+
+-- a check of values of one kind is a test of their entries
+pub checked : {A : Type 0} (asked : Value → Bool) (kind : A → Value) (meets : A → Bool) → asked value.Null ≡ false → ((x : A) → asked (kind x) ≡ meets x)
+    → (entries : List (Option A)) → map (option_holds meets) entries ≡ map asked (map (value_by kind) entries)
+checked asked kind meets null same [] = refl
+checked asked kind meets null same (None ∷ entries) =
+    ap (λ (b : Bool). b ∷ map (option_holds meets) entries) (sym null) ∙ ap (λ (l : List Bool). asked value.Null ∷ l) (checked asked kind meets null same entries)
+checked asked kind meets null same (Some x ∷ entries) =
+    ap (λ (b : Bool). b ∷ map (option_holds meets) entries) (sym (same x)) ∙ ap (λ (l : List Bool). asked (kind x) ∷ l) (checked asked kind meets null same entries)
+
+both-false : (mask others : List Bool) → length mask ≡ length others → ((k : ℕ) → k < length others → get_or others k false ≡ false) → replicate (length mask) false ≡ both mask others
+both-false [] others len none = refl
+both-false (p ∷ mask) [] len none = absurd (omega arith)
+both-false (p ∷ mask) (q ∷ others) len none =
+    ap (λ (l : List Bool). false ∷ l) (both-false mask others (omega arith) (λ k lt. none (suc k) (omega arith)))
+    ∙ ap (λ (b : Bool). b ∷ both mask others) (no_and p ∙ ap (λ (b : Bool). p && b) (sym (none 0 (omega arith))))
+  where
+    no_and : (b : Bool) → false ≡ (b && false)
+    no_and true = refl
+    no_and false = refl
+
+-- a check that holds of no value lets no row pass
+pub none_holds : {A : Type 0} (asked : Value → Bool) (kind : A → Value) → asked value.Null ≡ false → ((x : A) → asked (kind x) ≡ false)
+    → (mask present : List Bool) (entries : List A) → length present ≡ length entries → length mask ≡ length entries
+    → replicate (length mask) false ≡ both mask (map asked (map (value_by kind) (aligned present entries)))
+none_holds {A} asked kind null never mask present entries flags rows =
+    both-false mask (present_holds (λ (x : A). false) present entries) (rows ∙ sym (present-length (λ (x : A). false) present entries flags)) (λ k lt. no present entries k)
+    ∙ ap (both mask) (checked asked kind (λ (x : A). false) null never (aligned present entries))
+  where
+    no : (present : List Bool) (entries : List A) (k : ℕ) → get_or (present_holds (λ (x : A). false) present entries) k false ≡ false
+    no [] entries k = refl
+    no (p ∷ present) [] k = refl
+    no (true ∷ present) (x ∷ entries) zero = refl
+    no (false ∷ present) (x ∷ entries) zero = refl
+    no (p ∷ present) (x ∷ entries) (suc k) = no present entries k
+
+-- tests that answer the same of each entry are one
+pub present-same : {A : Type 0} (f g : A → Bool) → ((x : A) → f x ≡ g x) → (entries : List (Option A)) → map (option_holds f) entries ≡ map (option_holds g) entries
+present-same f g same [] = refl
+present-same f g same (None ∷ entries) = ap (λ (l : List Bool). false ∷ l) (present-same f g same entries)
+present-same f g same (Some x ∷ entries) =
+    ap (λ (b : Bool). b ∷ map (option_holds f) entries) (same x) ∙ ap (λ (l : List Bool). g x ∷ l) (present-same f g same entries)
+
+pub map-map : {A B C : Type 0} (f : B → C) (g : A → B) (xs : List A) → map f (map g xs) ≡ map (λ x. f (g x)) xs
+map-map f g [] = refl
+map-map {C = C} f g (x ∷ xs) = ap (λ (l : List C). f (g x) ∷ l) (map-map f g xs)
+
+-- an item that is there
+pub slice_get-get_or : {A : Type 0} (xs : List A) (i : ℕ) (x d : A) → slice_get xs i ≡ Some x → x ≡ get_or xs i d
+slice_get-get_or [] i x d e = absurd cc
+slice_get-get_or (y ∷ xs) zero x d e = cc
+slice_get-get_or (y ∷ xs) (suc i) x d e = slice_get-get_or xs i x d e

@@ -1,0 +1,9 @@
+use Rattle.std.proofs.Common.{◌≡◌, ◌&&◌, ℕ, ◌<◌, ◌≤◌, get_or, false}
+use Rattle.batch_masks.specs.Checks.{present_holds}
+use Rattle.batch_masks.proofs.narrow.narrow_by.Given as goal
+
+abbrev pub invariant-loop-row : goal.invariant-loop-row
+invariant-loop-row g l = record {
+  done : (k : ℕ) → k < l.row → get_or l.mask k false ≡ (get_or l.fn.mask k false && get_or (present_holds (λ n. g.C.Compare.compares n l.literal) l.present l.entries) k false);
+  rest : (k : ℕ) → l.row ≤ k → get_or l.mask k false ≡ get_or l.fn.mask k false;
+}

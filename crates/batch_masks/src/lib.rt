@@ -1,0 +1,10 @@
+//! Which rows of a batch pass, and the total of their numbers: loops over typed lists.
+#![tactic(auto)]
+
+mod compares;
+mod mask;
+mod narrow;
+mod total;
+
+pub use mask::mask_of;
+pub use total::{Total, with_kept};

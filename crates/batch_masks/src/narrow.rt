@@ -1,0 +1,213 @@
+//! Masks: a flag for each row of a batch, which one test after another unsets.
+ghost use Rattle.std.specs.Prelude.{◌≡◌, ◌<◌, length, map, not, false, replicate, if◌then◌else◌, get_or, pos, FitsSigned};
+ghost use Rattle.std.specs.Int.{w64};
+ghost use Rattle.std.specs.Ordering.{nat_cmp, int_cmp, bool_cmp};
+ghost use Rattle.std.specs.Cmp.Lexicographic.{slice_cmp};
+ghost use Rattle.fragment_plan.specs.declared.test.Check.TheVariants as check;
+ghost use Rattle.orc_values.specs.declared.value.Value.TheVariants as value;
+ghost use Rattle.batch_masks.specs.Kept.{both};
+ghost use Rattle.batch_masks.specs.Checks.{satisfies, check_holds, present_holds, holds_of};
+
+use crate::compares::{
+    Compare, IsEqual, IsGreater, IsGreaterOrEqual, IsLess, IsLessOrEqual, IsNotEqual,
+};
+use fragment_plan::{Check, Op};
+use orc_values::{Column, ColumnValues, Texts, Value};
+use std::cmp::Ordering;
+
+/// Lets those rows pass no more of whose value the check doesn't hold.
+pub(crate) fn narrow(mask: &mut [bool], column: &Column, check: &Check)
+    requires rows { length mask.old ≡ length column.now }
+    ensures { mask.new ≡ both mask.old (map (check_holds check.now) column.now) }
+{
+    match check {
+        Check::IsNull => narrow_nulls(mask, column.present()),
+        Check::IsNotNull => narrow_present(mask, column.present()),
+        Check::Compare { op, literal } => narrow_compared(mask, column, *op, literal),
+    }
+}
+
+/// Lets those rows pass no more whose value is null.
+pub(crate) fn narrow_present(mask: &mut [bool], present: &[bool])
+    requires { length mask.old ≡ length present.now }
+    ensures { mask.new ≡ both mask.old present.now }
+{
+    for row in 0..present.len() {
+        mask[row] = mask[row] & present[row];
+    }
+}
+
+/// Lets those rows pass no more whose value isn't null.
+fn narrow_nulls(mask: &mut [bool], present: &[bool])
+    requires { length mask.old ≡ length present.now }
+    ensures { mask.new ≡ both mask.old (map not present.now) }
+{
+    for row in 0..present.len() {
+        mask[row] = mask[row] & !present[row];
+    }
+}
+
+/// Lets no row pass more.
+fn narrow_none(mask: &mut [bool])
+    ensures { mask.new ≡ replicate (length mask.old) false }
+{
+    for row in 0..mask.len() {
+        mask[row] = false;
+    }
+}
+
+/// Lets those rows pass no more whose value doesn't compare with the literal so.
+fn narrow_compared(mask: &mut [bool], column: &Column, op: Op, literal: &Value)
+    requires rows { length mask.old ≡ length column.now }
+    ensures { mask.new ≡ both mask.old (map (check_holds (check.Compare op literal.now)) column.now) }
+{
+    match column.values() {
+        ColumnValues::Ints(entries) => {
+            compare_ints(mask, column.present(), entries, op, literal);
+        }
+        ColumnValues::Bools(entries) => {
+            compare_bools(mask, column.present(), entries, op, literal);
+        }
+        ColumnValues::Texts(entries) => {
+            compare_texts(mask, column.present(), entries, op, literal);
+        }
+    }
+}
+
+/// The same of a column of numbers.
+fn compare_ints(mask: &mut [bool], present: &[bool], entries: &[i64], op: Op, literal: &Value)
+    requires flags { length present.now ≡ length entries.now }
+    requires rows { length mask.old ≡ length entries.now }
+    ensures { mask.new ≡ both mask.old (holds_of (λ n. value.Int n) op literal.now present.now entries.now) }
+{
+    match literal {
+        Value::Int(number) => narrow_ints(mask, present, entries, op, number),
+        Value::Null => narrow_none(mask),
+        Value::Bool(_) => narrow_none(mask),
+        Value::Text(_) => narrow_none(mask),
+    }
+}
+
+/// The same of a column of truth values.
+fn compare_bools(mask: &mut [bool], present: &[bool], entries: &[bool], op: Op, literal: &Value)
+    requires flags { length present.now ≡ length entries.now }
+    requires rows { length mask.old ≡ length entries.now }
+    ensures { mask.new ≡ both mask.old (holds_of (λ b. value.Bool b) op literal.now present.now entries.now) }
+{
+    match literal {
+        Value::Bool(truth) => narrow_bools(mask, present, entries, op, *truth),
+        Value::Null => narrow_none(mask),
+        Value::Int(_) => narrow_none(mask),
+        Value::Text(_) => narrow_none(mask),
+    }
+}
+
+/// The same of a column of texts.
+fn compare_texts(mask: &mut [bool], present: &[bool], entries: &Texts, op: Op, literal: &Value)
+    requires flags { length present.now ≡ length entries.now }
+    requires rows { length mask.old ≡ length entries.now }
+    ensures { mask.new ≡ both mask.old (holds_of (λ t. value.Text t) op literal.now present.now entries.now) }
+{
+    match literal {
+        Value::Text(text) => narrow_texts(mask, present, entries, op, text.as_slice()),
+        Value::Null => narrow_none(mask),
+        Value::Bool(_) => narrow_none(mask),
+        Value::Int(_) => narrow_none(mask),
+    }
+}
+
+/// The same of numbers, with a number: one loop for each operator.
+fn narrow_ints(mask: &mut [bool], present: &[bool], entries: &[i64], op: Op, literal: &i64)
+    requires flags { length present.now ≡ length entries.now }
+    requires rows { length mask.old ≡ length entries.now }
+    ensures { mask.new ≡ both mask.old (present_holds (λ n. satisfies op (int_cmp n literal.now)) present.now entries.now) }
+{
+    let literal = *literal;
+    match op {
+        Op::Equal => narrow_by::<IsEqual>(mask, present, entries, literal),
+        Op::NotEqual => narrow_by::<IsNotEqual>(mask, present, entries, literal),
+        Op::Less => narrow_by::<IsLess>(mask, present, entries, literal),
+        Op::LessOrEqual => narrow_by::<IsLessOrEqual>(mask, present, entries, literal),
+        Op::Greater => narrow_by::<IsGreater>(mask, present, entries, literal),
+        Op::GreaterOrEqual => narrow_by::<IsGreaterOrEqual>(mask, present, entries, literal),
+    }
+}
+
+fn narrow_by<C: Compare>(mask: &mut [bool], present: &[bool], entries: &[i64], literal: i64)
+    requires flags { length present.now ≡ length entries.now }
+    requires rows { length mask.old ≡ length entries.now }
+    ensures { mask.new ≡ both mask.old (present_holds (λ n. C.compares n literal) present.now entries.now) }
+{
+    for row in 0..entries.len() {
+        mask[row] = mask[row] & present[row] & C::compares(number_at(entries, row), literal);
+    }
+}
+
+/// The number at a row.
+fn number_at(entries: &[i64], row: usize) -> i64
+    requires { row < length entries.now }
+    ensures value { result ≡ get_or entries.now row (pos 0) }
+    ensures fits { FitsSigned w64 result }
+{
+    entries[row]
+}
+
+/// The same of truth values, with a truth value: what the operator answers of each is known before the loop.
+fn narrow_bools(mask: &mut [bool], present: &[bool], entries: &[bool], op: Op, literal: bool)
+    requires flags { length present.now ≡ length entries.now }
+    requires rows { length mask.old ≡ length entries.now }
+    ensures { mask.new ≡ both mask.old (present_holds (λ b. satisfies op (bool_cmp b literal)) present.now entries.now) }
+{
+    let of_false = is_so(op, false.cmp(&literal));
+    let of_true = is_so(op, true.cmp(&literal));
+    narrow_truths(mask, present, entries, of_false, of_true);
+}
+
+fn narrow_truths(
+    mask: &mut [bool],
+    present: &[bool],
+    entries: &[bool],
+    of_false: bool,
+    of_true: bool,
+)
+    requires flags { length present.now ≡ length entries.now }
+    requires rows { length mask.old ≡ length entries.now }
+    ensures { mask.new ≡ both mask.old (present_holds (λ b. if b then of_true else of_false) present.now entries.now) }
+{
+    for row in 0..entries.len() {
+        mask[row] = mask[row] & present[row] & chosen(entries[row], of_false, of_true);
+    }
+}
+
+/// One of two answers.
+fn chosen(truth: bool, of_false: bool, of_true: bool) -> bool
+    ensures { result ≡ if truth then of_true else of_false }
+{
+    if truth { of_true } else { of_false }
+}
+
+/// The same of texts, with a text.
+fn narrow_texts(mask: &mut [bool], present: &[bool], entries: &Texts, op: Op, literal: &[u8])
+    requires flags { length present.now ≡ length entries.now }
+    requires rows { length mask.old ≡ length entries.now }
+    ensures { mask.new ≡ both mask.old (present_holds (λ t. satisfies op (slice_cmp nat_cmp t literal.now)) present.now entries.now) }
+{
+    for row in 0..entries.len() {
+        let holds = is_so(op, entries.get(row).cmp(literal));
+        mask[row] = mask[row] & present[row] & holds;
+    }
+}
+
+/// Whether a comparison came out as the operator wants.
+fn is_so(op: Op, order: Ordering) -> bool
+    ensures { result ≡ satisfies op order }
+{
+    match op {
+        Op::Equal => order.is_eq(),
+        Op::NotEqual => !order.is_eq(),
+        Op::Less => order.is_lt(),
+        Op::LessOrEqual => !order.is_gt(),
+        Op::Greater => order.is_gt(),
+        Op::GreaterOrEqual => !order.is_lt(),
+    }
+}
