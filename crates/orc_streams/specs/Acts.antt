@@ -1,6 +1,5 @@
 -- What a reader of streams does, act by act. Source: this project's own.
-use Rattle.std.specs.Prelude.{◌≡◌, ℕ, true, List, [], ◌∷◌, ◌++◌, Result, Ok, Err, refl}
-use Rattle.std.proofs.Common.{ap}
+use Rattle.std.specs.Prelude.{ℕ, List, [], ◌∷◌, Result, Ok, Err}
 use Rattle.outside.specs.declared.file_ref.FileRange.{FileRange}
 use Rattle.outside.specs.Feed.{Taken}
 use Rattle.outside.specs.Followed.{failed_read}
@@ -36,27 +35,3 @@ abbrev pub FailedToOpen : {T : Type 0} → Result T OpenFault → Type 0
 FailedToOpen (Ok x) = ⊥
 FailedToOpen (Err (Read failed)) = Unit {0}
 FailedToOpen (Err NoMemory) = ⊥
-
--- the reads of a reader that reads a stream whole where it is opened
-abbrev pub direct_reads : List Act → List ReadEntry
-direct_reads [] = []
-direct_reads (reads e ∷ acts) = e ∷ direct_reads acts
-direct_reads (opens stream range ∷ acts) = (record { range = range; ok = true }) ∷ direct_reads acts
-direct_reads (takes t ∷ acts) = direct_reads acts
-direct_reads (closes ∷ acts) = direct_reads acts
-
-pub direct_reads-joined : (front back : List Act) → direct_reads (front ++ back) ≡ direct_reads front ++ direct_reads back
-direct_reads-joined [] back = refl
-direct_reads-joined (reads e ∷ acts) back = ap (λ (es : List ReadEntry). e ∷ es) (direct_reads-joined acts back)
-direct_reads-joined (opens stream range ∷ acts) back =
-    ap (λ (es : List ReadEntry). (record { range = range; ok = true }) ∷ es) (direct_reads-joined acts back)
-direct_reads-joined (takes t ∷ acts) back = direct_reads-joined acts back
-direct_reads-joined (closes ∷ acts) back = direct_reads-joined acts back
-
-pub direct_reads-of_reads : (es : List ReadEntry) → direct_reads (read_acts es) ≡ es
-direct_reads-of_reads [] = refl
-direct_reads-of_reads (e ∷ es) = ap (λ (fs : List ReadEntry). e ∷ fs) (direct_reads-of_reads es)
-
-pub direct_reads-of_takes : (ts : List Taken) → direct_reads (take_acts ts) ≡ []
-direct_reads-of_takes [] = refl
-direct_reads-of_takes (t ∷ ts) = direct_reads-of_takes ts

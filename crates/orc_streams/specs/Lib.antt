@@ -1,4 +1,5 @@
 pub mod Acts
+pub mod Direct
 pub mod Laws
 pub mod Layout
 pub mod Openings

@@ -1,9 +1,8 @@
 -- Streams in memory: what is left of each, and what a list of takes leaves. Source: this project's own.
 use Rattle.std.specs.Prelude.{◌≡◌, ℕ, ◌+◌, List, [], ◌∷◌, ◌++◌, map, drop, Option, Some, slice_index_or}
-use Rattle.std.proofs.Common.{subst, sym, ap, ◌∙◌}
+use Rattle.std.proofs.Common.{subst, ap, ◌∙◌}
 use Rattle.outside.specs.Feed.{Taken, Lost, gave, taken_of}
 use Rattle.outside.specs.FeedLaws.{Lost-nothing, Lost-then, taken_of-append, taken_of-sum}
-use Rattle.outside.specs.Reads.{ReadEntry}
 use Rattle.orc_streams.specs.declared.stored_streams.StoredStream.{StoredStream}
 use Rattle.orc_streams.specs.declared.stored_streams.StoredStreams.{StoredStreams}
 
@@ -42,15 +41,3 @@ Fed-sum first last before after stream m n led other =
 -- a stream of which nothing was taken has the bytes that it had
 pub same_left : {count : ℕ} {before after : List ℕ} → count ≡ 0 → Lost count (Some before) (Some after) → Some after ≡ Some before
 same_left {count} {before} {after} none lost = ap (λ (bytes : List ℕ). Some bytes) (lost.1 ∙ ap (λ (n : ℕ). drop n before) none)
-
--- ---- the reads of a reader below
-
--- the same reads, in another form
-pub by_reads : {S : Type 0} (went : S → List ReadEntry → S → Type 0) (first last : S) {xs ys : List ReadEntry} → xs ≡ ys
-    → went first ys last → went first xs last
-by_reads went first last e w = subst (λ (es : List ReadEntry). went first es last) (sym e) w
-
--- it stayed as it was
-pub same_after : {S : Type 0} (went : S → List ReadEntry → S → Type 0) (first last : S) → last ≡ first → went first [] first
-    → went first [] last
-same_after {S} went first last e w = subst (λ (r : S). went first [] r) (sym e) w

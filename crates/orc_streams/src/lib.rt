@@ -11,4 +11,5 @@ mod stream_reader;
 pub use direct_reader::DirectReader;
 pub use layout::{ColumnLayout, ReadColumn, Span, layout_of, layouts_of};
 pub use openings::{open_column, open_columns};
+pub use stored_streams::StoredStreams;
 pub use stream_reader::{OpenFault, StreamReader};
