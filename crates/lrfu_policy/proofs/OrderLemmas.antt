@@ -1,10 +1,10 @@
 -- The least of two sets of headers' ranks.
-use Rattle.std.proofs.Common.{◌≡◌, ℕ, ◌+◌, ◌<◌, arith, ◌⊎◌, inl, inr, Bool, true, false, cond, List, slice_index_or, Option, Some, None, refl, sym, ap, ◌∙◌, subst}
+use Rattle.std.proofs.Common.{◌≡◌, ◌≢◌, ℕ, ◌+◌, ◌<◌, arith, ◌⊎◌, inl, inr, Bool, true, false, cond, List, slice_index_or, Option, Some, None, refl, sym, ap, ◌∙◌, subst}
 use Rattle.std.proofs.Common.{Ordering, Less, Equal, Greater}
-use Rattle.std.specs.Ordering.{is_gt, is_eq, nat_cmp, ordering_then, ordering_reverse, MatchOrdering}
+use Rattle.std.specs.Ordering.{is_gt, is_lt, is_eq, nat_cmp, ordering_then, ordering_reverse, MatchOrdering}
 use Rattle.std.specs.Cmp.{IsTotalOrder}
 use Rattle.std.specs.Option.{is_some}
-use Rattle.std.proofs.lemmas.Bool.{false≢true, cases_eq}
+use Rattle.std.proofs.lemmas.Bool.{false≢true, cases_Bool, cases_eq}
 use Rattle.std.proofs.lemmas.Cmp.{nat_cmp_total, on_total, then_total, upto, tied_itself, ranked}
 use Rattle.lrfu_policy.specs.declared.entry.Entry.{Entry}
 use Rattle.lrfu_policy.specs.declared.rank.Rank.{Rank}
@@ -165,3 +165,19 @@ tied_header a b tie =
     let by_last = last_of (nat_cmp (weight a) (weight b)) _ (equal_by (rank_cmp a b) tie) in
     let by_header = last_of (nat_cmp a.last b.last) (nat_cmp a.header b.header) by_last in
     same_number a.header b.header (nat_cmp a.header b.header) refl by_header
+
+-- a rank that is neither above another nor below it is of the same header
+tied : (o : Ordering) → is_lt o ≡ false → is_gt o ≡ false → is_eq o ≡ true
+tied Less low high = absurd (false≢true (sym low))
+tied Equal low high = refl
+tied Greater low high = absurd (false≢true (sym high))
+
+pub none_between : (P : ℕ → Type 0) (entries : List (Option Entry)) (after : Option Rank) (r : Rank) → IsLeast P entries after (Some r) →
+    (h : ℕ) (q : Rank) → P h → h ≢ r.header → rank_at entries h ≡ Some q → is_above (Some r) q ≡ false → is_above after q ≡ false
+none_between P entries after r found h q here other at low =
+    elim (cases_Bool (is_above after q)) [
+      | inl up ↦
+          let tie = tied_header r q (tied (rank_cmp r q) low (found.least h q here at up)) in
+          absurd (other (sym (tie ∙ header_at entries h q at)))
+      | inr under ↦ under
+    ]

@@ -1,11 +1,10 @@
 -- Laws of ranks, victims and entries, for those who walk from victim to victim.
-use Rattle.std.specs.Prelude.{◌≡◌, ℕ, ◌<◌, ◌≤◌, List, length, slice_set, Option, Some, None}
+use Rattle.std.specs.Prelude.{◌≡◌, ◌≢◌, ℕ, ◌<◌, ◌≤◌, true, false, List, length, slice_set, Option, Some, None}
 use Rattle.std.specs.Cmp.{IsTotalOrder}
 use Rattle.std.specs.Ordering.{is_eq}
-use Rattle.std.specs.Prelude.{true}
 use Rattle.lrfu_policy.specs.declared.entry.Entry.{Entry}
 use Rattle.lrfu_policy.specs.declared.rank.Rank.{Rank}
-use Rattle.lrfu_policy.specs.Rank.{rank_cmp}
+use Rattle.lrfu_policy.specs.Rank.{is_above, rank_at, rank_cmp}
 use Rattle.lrfu_policy.specs.Victim.{Among, IsLeast, above_count}
 use Rattle.lrfu_policy.specs.Policy.{synced}
 
@@ -18,6 +17,14 @@ abbrev pub VictimIsOne : Type 0
 VictimIsOne =
     (first count : ℕ) (entries : List (Option Entry)) (after a b : Option Rank) →
     IsLeast (Among first count) entries after a → IsLeast (Among first count) entries after b → a ≡ b
+
+-- Between a rank and the next victim after it there is none: whatever isn't above that victim, but for itself, wasn't above
+-- the rank before. So a walk that begins without a rank and ends with `None` was given every rank.
+abbrev pub NoneBetween : Type 0
+NoneBetween =
+    (first count : ℕ) (entries : List (Option Entry)) (after : Option Rank) (r : Rank) → IsLeast (Among first count) entries after (Some r) →
+    (h : ℕ) (q : Rank) → Among first count h → h ≢ r.header → rank_at entries h ≡ Some q →
+    is_above (Some r) q ≡ false → is_above after q ≡ false
 
 -- each victim leaves fewer ranks above it
 abbrev pub VictimsRunOut : Type 0
