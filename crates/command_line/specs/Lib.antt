@@ -1,0 +1,5 @@
+pub mod Command
+pub mod Options
+pub mod Matches
+pub mod Laws
+pub mod Pages
