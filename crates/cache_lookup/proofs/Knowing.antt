@@ -1,23 +1,21 @@
 -- A look-up by a seat that knows the words.
-use Rattle.std.proofs.Common.{◌≡◌, ◌≢◌, ℕ, ◌+◌, ◌-◌, ◌*◌, ◌%◌, ◌^◌, ◌<◌, ◌≤◌, List, [], ◌∷◌, ◌++◌, length, get_or, set, refl, sym, ap, ◌∙◌, subst, inl, inr, arith}
-use Rattle.std.specs.Prelude.{Option, Some, None, IfSome, option_map, ◌⊎◌, slice_index, slice_set}
+use Rattle.std.proofs.Common.{◌≡◌, ◌≢◌, ℕ, ◌+◌, ◌-◌, ◌%◌, ◌^◌, ◌<◌, List, [], ◌∷◌, ◌++◌, length, refl, sym, ap, ◌∙◌, subst, inl, inr, arith}
+use Rattle.std.specs.Prelude.{Option, Some, ◌⊎◌, slice_index, slice_set}
 use Rattle.std.proofs.lemmas.Bool.{cases_eq, cases_lt}
 use Rattle.std.proofs.lemmas.List.{get_or-set_same, get_or-set_other, set-get_or, set-set, set_past}
 use Rattle.buffer_word.specs.declared.key_word.Key.{Key}
 use Rattle.buffer_word.specs.declared.state_word.Mode.{Mode}
 use Rattle.buffer_word.specs.declared.state_word.Mode.TheVariants.{Released, New, Live, Moving, Evicted}
-use Rattle.buffer_word.specs.declared.state_word.State.{State}
 use Rattle.buffer_word.specs.KeyWord.{key_word}
-use Rattle.buffer_word.specs.StateWord.{state_word, word_of}
+use Rattle.buffer_word.specs.StateWord.{word_of}
 use Rattle.pool_model.specs.Content.{Files}
 use Rattle.pool_rule.specs.declared.geometry.Geometry.{Geometry}
-use Rattle.pool_rule.specs.declared.geometry.WordName.{WordName}
 use Rattle.pool_rule.specs.declared.geometry.WordName.TheVariants.{State as StateOf, KeyOf}
 use Rattle.pool_rule.specs.declared.view.View.{View}
 use Rattle.pool_rule.specs.declared.word_step.WordStep.{WordStep}
 use Rattle.pool_rule.specs.declared.word_step.WordStep.TheVariants.{Looked, Counted, Uncounted}
-use Rattle.pool_rule.specs.Layout.{header_word, index_of}
-use Rattle.pool_rule.specs.WordSteps.{IsMade, IsStateWord, found_by, left_by, word_at}
+use Rattle.pool_rule.specs.Layout.{header_word}
+use Rattle.pool_rule.specs.WordSteps.{IsStateWord}
 use Rattle.buffer_pool.specs.Made.{AreMade, IsLiveWord}
 use Rattle.buffer_pool.specs.Pools.{pin_header}
 use Rattle.cache_lookup.specs.declared.ways.Found.{Found}

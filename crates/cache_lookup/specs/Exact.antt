@@ -1,5 +1,5 @@
 -- A look-up by a seat that knows the words: which answer comes, by the words alone. Source: this project's own.
-use Rattle.std.specs.Prelude.{◌≡◌, ◌≢◌, ℕ, ◌+◌, ◌%◌, ◌^◌, ◌<◌, ◌≤◌, List, ◌⊎◌, Option, Some, slice_index, slice_set}
+use Rattle.std.specs.Prelude.{◌≡◌, ◌≢◌, ℕ, ◌+◌, ◌%◌, ◌^◌, ◌<◌, ◌≤◌, List, ◌⊎◌, Some, slice_index, slice_set}
 use Rattle.buffer_word.specs.declared.key_word.Key.{Key}
 use Rattle.buffer_word.specs.declared.state_word.Mode.TheVariants as mode
 use Rattle.buffer_word.specs.KeyWord.{key_word}
@@ -19,7 +19,8 @@ state_in g words header = slice_index words (header_word g header)
 -- by the words the header hasn't the key: its key word is another, or its buffer is evicted, or it is released
 abbrev pub IsWithout : Geometry → Key → List ℕ → ℕ → Type 0
 IsWithout g key words header =
-    (slice_index words (header_word g header + 1) ≢ key_word key) ⊎ (HasMode (state_in g words header) mode.Evicted ⊎ HasMode (state_in g words header) mode.Released)
+    (slice_index words (header_word g header + 1) ≢ key_word key)
+    ⊎ (HasMode (state_in g words header) mode.Evicted ⊎ HasMode (state_in g words header) mode.Released)
 
 -- the first of the ways from header `first` on that has the key, counted from way `from` on
 pub record IsFirstWith (g : Geometry) (key : Key) (words : List ℕ) (first from way : ℕ) : Type 0 where
@@ -34,6 +35,8 @@ IsExact g key words first from states new (Hit pin) =
     (way : ℕ) × IsFirstWith g key words first from way × (pin_header pin ≡ first + way) × IsLiveWord (state_in g words (first + way))
     × (new.known ≡ Some (slice_set words (header_word g (first + way)) ((state_in g words (first + way) + 16) % 2 ^ 64)))
 IsExact g key words first from states new (Busy word) =
-    (way : ℕ) × IsFirstWith g key words first from way × (word ≡ state_in g words (first + way)) × (IsLiveWord word → ⊥) × (new.known ≡ Some words)
+    (way : ℕ) × IsFirstWith g key words first from way × (word ≡ state_in g words (first + way)) × (IsLiveWord word → ⊥)
+    × (new.known ≡ Some words)
 IsExact g key words first from states new Missing =
-    ((way : ℕ) → from ≤ way → way < 8 → IsWithout g key words (first + way) × (slice_index states way ≡ state_in g words (first + way))) × (new.known ≡ Some words)
+    ((way : ℕ) → from ≤ way → way < 8 → IsWithout g key words (first + way) × (slice_index states way ≡ state_in g words (first + way)))
+    × (new.known ≡ Some words)

@@ -27,7 +27,8 @@ use Rattle.cache_lookup.specs.Trails.{Among, events, first_load, last_load}
 -- a load showed another key word in that header, or a state that is evicted or released
 pub data IsMissing (key : Key) (ss : List WordStep) (header : ℕ) : Type 0 where
   other_key : (shown : ℕ) → shown ≢ key_word key → Among (Looked (KeyOf header) shown) ss → IsMissing key ss header
-  no_buffer : (word : ℕ) → HasMode word mode.Evicted ⊎ HasMode word mode.Released → Among (Looked (State header) word) ss → IsMissing key ss header
+  no_buffer : (word : ℕ) → HasMode word mode.Evicted ⊎ HasMode word mode.Released → Among (Looked (State header) word) ss
+      → IsMissing key ss header
 
 -- the key isn't in that header, of which the first and the last load of the state gave this word
 pub record IsPassed (g : Geometry) (key : Key) (ss : List WordStep) (header state : ℕ) : Type 0 where
@@ -77,7 +78,8 @@ pub data IsLookStep : WordStep → Type 0 where
   back : (header found : ℕ) → IsLookStep (Uncounted header found)
 
 -- The seat looked a key up by these steps, with that answer. If it knows the words, the answer follows from them.
-pub record IsLookUp (files : Option Files) (g : Geometry) (id : ℕ) (key : Key) (ss : List WordStep) (states : List ℕ) (old new : View) (found : Found) : Type 0 where
+pub record IsLookUp (files : Option Files) (g : Geometry) (id : ℕ) (key : Key) (ss : List WordStep) (states : List ℕ) (old new : View)
+    (found : Found) : Type 0 where
   pub right : AreRight files g id key (IsHit found) old [] old ss new
   pub only : (s : WordStep) → Among s ss → IsLookStep s
   pub leaves : Leaves old new found

@@ -33,7 +33,8 @@ pub record IsShown (key : Key) (before : List WordStep) (header : ℕ) : Type 0 
 -- where it adds a count it has no claim. A count is added on a way of the key's set alone, in which loads of this call showed the
 -- key in a buffer that is live or moves. A load that shows the key to a new pin, which then is a pin of that key, makes the
 -- answer the one that `hit` says.
-pub record IsRight (g : Geometry) (key : Key) (hit : Type 0) (start : View) (before : List WordStep) (s : WordStep) (v : View) : Type 0 where
+pub record IsRight (g : Geometry) (key : Key) (hit : Type 0) (start : View) (before : List WordStep) (s : WordStep)
+    (v : View) : Type 0 where
   pub arena_load : (arena found : ℕ) → s ≡ Looked (Arena arena) found → SameClaims start v × SameGrants start v
   pub state_load : (header found : ℕ) → s ≡ Looked (State header) found → SameClaims start v
   pub count : (header found : ℕ) → s ≡ Counted header found → SameClaims start v × IsWay g key header × IsShown key before header
@@ -43,4 +44,5 @@ pub record IsRight (g : Geometry) (key : Key) (hit : Type 0) (start : View) (bef
 abbrev pub AreRight : Option Files → Geometry → ℕ → Key → Type 0 → View → List WordStep → View → List WordStep → View → Type 0
 AreRight files g id key hit start before v [] w = w ≡ v
 AreRight files g id key hit start before v (s ∷ ss) w =
-    (u : View) × IsMade files g id s v u × IsRight g key hit start before s v × AreRight files g id key hit start (before ++ s ∷ []) u ss w
+    (u : View) × IsMade files g id s v u × IsRight g key hit start before s v
+    × AreRight files g id key hit start (before ++ s ∷ []) u ss w

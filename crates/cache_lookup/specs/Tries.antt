@@ -33,24 +33,30 @@ MayBePinned seen = HasMode seen mode.Live ⊎ HasMode seen mode.Moving
 pub data PinSteps (key : Key) (header seen : ℕ) : List WordStep → Tried → Type 0 where
   held : (word : ℕ) (pin : Pin) → IsLiveWord word → pin_header pin ≡ header
       → PinSteps key header seen (Counted header word ∷ Looked (KeyOf header) (key_word key) ∷ []) (Hit pin)
-  refused : (word left : ℕ) → (IsLiveWord word → ⊥) → PinSteps key header seen (Counted header word ∷ Uncounted header left ∷ []) (Busy word)
+  refused : (word left : ℕ) → (IsLiveWord word → ⊥)
+      → PinSteps key header seen (Counted header word ∷ Uncounted header left ∷ []) (Busy word)
   changed : (word other left : ℕ) → IsLiveWord word → other ≢ key_word key
       → PinSteps key header seen (Counted header word ∷ Looked (KeyOf header) other ∷ Uncounted header left ∷ []) (Passed seen)
 
 -- one way is tried: its state and its key word are loaded
 pub data TrySteps (key : Key) (header : ℕ) : List WordStep → Tried → Type 0 where
-  has_not : (seen shown : ℕ) → HasNot key seen shown → TrySteps key header (Looked (State header) seen ∷ Looked (KeyOf header) shown ∷ []) (Passed seen)
-  is_new : (seen : ℕ) → HasMode seen mode.New → TrySteps key header (Looked (State header) seen ∷ Looked (KeyOf header) (key_word key) ∷ []) (Busy seen)
+  has_not : (seen shown : ℕ) → HasNot key seen shown
+      → TrySteps key header (Looked (State header) seen ∷ Looked (KeyOf header) shown ∷ []) (Passed seen)
+  is_new : (seen : ℕ) → HasMode seen mode.New
+      → TrySteps key header (Looked (State header) seen ∷ Looked (KeyOf header) (key_word key) ∷ []) (Busy seen)
   pins : (seen : ℕ) (ss : List WordStep) (r : Tried) → MayBePinned seen → PinSteps key header seen ss r
       → TrySteps key header (Looked (State header) seen ∷ Looked (KeyOf header) (key_word key) ∷ ss) r
 
 -- the ways from one on are tried in order, until one ends the look-up; `states` are the states that were seen in the others
 pub data LookSteps (key : Key) (first : ℕ) (states : List ℕ) : ℕ → List WordStep → Found → Type 0 where
   past : (way : ℕ) → way ≡ 8 → LookSteps key first states way [] found.Missing
-  passed : (way seen : ℕ) (ss ts : List WordStep) (r : Found) → way < 8 → TrySteps key (first + way) ss (Passed seen) → slice_index states way ≡ seen
+  passed : (way seen : ℕ) (ss ts : List WordStep) (r : Found) → way < 8 → TrySteps key (first + way) ss (Passed seen)
+      → slice_index states way ≡ seen
       → LookSteps key first states (way + 1) ts r → LookSteps key first states way (ss ++ ts) r
-  hit : (way : ℕ) (ss : List WordStep) (pin : Pin) → way < 8 → TrySteps key (first + way) ss (Hit pin) → LookSteps key first states way ss (found.Hit pin)
-  busy : (way word : ℕ) (ss : List WordStep) → way < 8 → TrySteps key (first + way) ss (Busy word) → LookSteps key first states way ss (found.Busy word)
+  hit : (way : ℕ) (ss : List WordStep) (pin : Pin) → way < 8 → TrySteps key (first + way) ss (Hit pin)
+      → LookSteps key first states way ss (found.Hit pin)
+  busy : (way word : ℕ) (ss : List WordStep) → way < 8 → TrySteps key (first + way) ss (Busy word)
+      → LookSteps key first states way ss (found.Busy word)
 
 -- ---- the seat made such steps
 
@@ -61,7 +67,8 @@ abbrev pub Tries : Option Files → Geometry → ℕ → Key → ℕ → View �
 Tries files g id key header old new r = (ss : List WordStep) × AreMade files g id ss old new × TrySteps key header ss r
 
 abbrev pub Looks : Option Files → Geometry → ℕ → Key → ℕ → List ℕ → ℕ → View → View → Found → Type 0
-Looks files g id key first states way old new r = (ss : List WordStep) × AreMade files g id ss old new × LookSteps key first states way ss r
+Looks files g id key first states way old new r = (ss : List WordStep) × AreMade files g id ss old new
+    × LookSteps key first states way ss r
 
 -- ---- what is handed over
 

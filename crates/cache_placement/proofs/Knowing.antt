@@ -1,5 +1,5 @@
 -- A placement by a seat that knows the words.
-use Rattle.std.proofs.Common.{◌≡◌, ◌≢◌, ℕ, ◌+◌, ◌*◌, ◌/◌, ◌<◌, ◌≤◌, List, [], ◌∷◌, ◌++◌, refl, sym, ap, ◌∙◌, subst, inl, inr, arith}
+use Rattle.std.proofs.Common.{◌≡◌, ℕ, ◌+◌, ◌*◌, ◌/◌, ◌<◌, ◌≤◌, List, [], ◌∷◌, ◌++◌, refl, sym, ap, ◌∙◌, subst, inl, inr, arith}
 use Rattle.std.specs.Prelude.{Option, Some, None, slice_index, slice_set}
 use Rattle.std.proofs.lemmas.Bool.{cases_eq}
 use Rattle.std.proofs.lemmas.List.{get_or-set_other}
@@ -14,14 +14,13 @@ use Rattle.pool_rule.specs.declared.view.View.{View}
 use Rattle.pool_rule.specs.declared.word_step.WordStep.{WordStep}
 use Rattle.pool_rule.specs.declared.word_step.WordStep.TheVariants as step
 use Rattle.pool_rule.specs.Layout.{header_word}
-use Rattle.pool_rule.specs.WordSteps.{left_by, word_at}
+use Rattle.pool_rule.specs.WordSteps.{left_by}
 use Rattle.buffer_pool.specs.Made.{AreMade}
-use Rattle.buffer_pool.specs.Pools.{block_at, block_of, pin_block, pin_header}
+use Rattle.buffer_pool.specs.Pools.{block_at, block_of}
 use Rattle.cache_lookup.specs.Callers.{known_found, known_left, known_looked}
 use Rattle.cache_placement.specs.declared.arenas.Asked.{Asked}
 use Rattle.cache_placement.specs.declared.arenas.Asked.TheVariants as asked
 use Rattle.cache_placement.specs.declared.why.Placed.{Placed}
-use Rattle.cache_placement.specs.declared.why.Placed.TheVariants.{Filled, Bypass}
 use Rattle.cache_placement.specs.Exact.{AreStates, IsExact, IsFirstArena}
 use Rattle.cache_placement.specs.Free.{IsFirstFree}
 use Rattle.cache_placement.specs.Steps.{AskSteps, OpenSteps, PlaceSteps, none_left, full, got, raced, lost, filled, set_full, no_room, arena_raced, opens}

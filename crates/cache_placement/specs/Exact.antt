@@ -1,5 +1,5 @@
 -- A placement by a seat that knows the words: which answer comes, by the words alone. Source: this project's own.
-use Rattle.std.specs.Prelude.{◌≡◌, ℕ, ◌+◌, ◌*◌, ◌<◌, ◌≤◌, List, Option, Some, None, slice_index}
+use Rattle.std.specs.Prelude.{◌≡◌, ℕ, ◌+◌, ◌*◌, ◌<◌, ◌≤◌, List, Some, None, slice_index}
 use Rattle.buddy_arena.specs.Buddy.{IsBuddyAnswer}
 use Rattle.pool_rule.specs.declared.geometry.Geometry.{Geometry}
 use Rattle.pool_rule.specs.declared.view.View.{View}
@@ -27,7 +27,8 @@ IsExact g order words first states new (Filled pin) =
     (way arena offset : ℕ) × IsFirstFree states way × IsFirstArena g order words 0 arena offset × (pin_header pin ≡ first + way)
     × (pin_block pin ≡ block_at (64 * arena + offset) order)
 IsExact g order words first states new (Bypass (NoRoom seen)) =
-    ((way : ℕ) × IsFirstFree states way) × ((arena : ℕ) → arena < g.arenas → slice_index seen arena ≡ slice_index words arena) × (new.known ≡ Some words)
+    ((way : ℕ) × IsFirstFree states way) × ((arena : ℕ) → arena < g.arenas → slice_index seen arena ≡ slice_index words arena)
+    × (new.known ≡ Some words)
 IsExact g order words first states new (Bypass (SetFull seen)) = new.known ≡ Some words
 IsExact g order words first states new (Bypass (Raced saw)) = ⊥
 IsExact g order words first states new (Bypass (Busy word)) = ⊥

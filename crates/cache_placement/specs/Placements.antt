@@ -1,5 +1,5 @@
 -- What becomes of a range that is to be placed, and what each answer tells. Source: this project's own.
-use Rattle.std.specs.Prelude.{◌≡◌, ◌≢◌, ℕ, ◌+◌, ◌*◌, ◌-◌, ◌^◌, ◌<◌, ◌≤◌, List, [], ◌∷◌, ◌++◌, ◌⊎◌, Option, Some, None, slice_index}
+use Rattle.std.specs.Prelude.{◌≡◌, ◌≢◌, ℕ, ◌+◌, ◌-◌, ◌^◌, ◌<◌, ◌≤◌, List, [], ◌∷◌, ◌++◌, ◌⊎◌, Option, Some, None, slice_index}
 use Rattle.buddy_arena.specs.Buddy.{IsBuddyAnswer}
 use Rattle.buffer_word.specs.declared.key_word.Key.{Key}
 use Rattle.pool_model.specs.declared.block.Block.{Block}
@@ -75,9 +75,11 @@ abbrev pub HoldsPlaced : {W : Type 0} → Pool W → PoolSeat W → Key → Plac
 HoldsPlaced pool seat key (Filled pin) = IsPinFor pool seat key pin
 HoldsPlaced pool seat key (Bypass why) = Unit {0}
 
--- The seat placed a range by these steps, with that answer. A grant makes the answer that the range is filled, or that the header was lost, and an opening that it is filled.
+-- The seat placed a range by these steps, with that answer. A grant makes the answer that the range is filled, or that the header
+-- was lost, and an opening that it is filled.
 -- If the seat knows the words, and the states are theirs, the answer follows from them.
-pub record IsPlacement (files : Option Files) (g : Geometry) (id : ℕ) (key : Key) (order first : ℕ) (states : List ℕ) (ss : List WordStep) (old new : View) (placed : Placed) : Type 0 where
+pub record IsPlacement (files : Option Files) (g : Geometry) (id : ℕ) (key : Key) (order first : ℕ) (states : List ℕ) (ss : List WordStep)
+    (old new : View) (placed : Placed) : Type 0 where
   pub right : AreRight files g id key ⊥ old [] old ss new
   pub leaves : Leaves old new placed
   pub tells : Tells g order first states ss placed

@@ -1,5 +1,5 @@
 -- A fetch by a seat that knows the words: nobody else makes a step, and the answer follows from the words. Source: this project's own.
-use Rattle.std.specs.Prelude.{◌≡◌, ◌≢◌, ℕ, ◌+◌, ◌<◌, ◌≤◌, List, Option, Some, None, slice_index}
+use Rattle.std.specs.Prelude.{◌≡◌, ◌≢◌, ℕ, ◌+◌, ◌<◌, List, Some, None, slice_index}
 use Rattle.buddy_arena.specs.Buddy.{IsBuddyAnswer}
 use Rattle.buffer_word.specs.declared.key_word.Key.{Key}
 use Rattle.pool_rule.specs.declared.geometry.Geometry.{Geometry}
@@ -32,18 +32,22 @@ HasArena g key words = (order arena offset : ℕ) × IsOrder g key.len order × 
 
 -- no arena has one
 abbrev pub HasNoArena : Geometry → Key → List ℕ → Type 0
-HasNoArena g key words = (order : ℕ) × IsOrder g key.len order × ((arena : ℕ) → arena < g.arenas → IsBuddyAnswer 64 (slice_index words arena) order None)
+HasNoArena g key words = (order : ℕ) × IsOrder g key.len order
+    × ((arena : ℕ) → arena < g.arenas → IsBuddyAnswer 64 (slice_index words arena) order None)
 
 -- The first way that has the key decides: a hit if it is live, and else busy with its state. Where no way has it, the lowest free way
 -- and the first arena with a block are taken, if there are both. Nothing is lost to another seat, and a bypass leaves the words as
 -- they were.
 abbrev pub IsExact : Geometry → Key → List ℕ → View → How → Type 0
-IsExact g key words new Hit = (way : ℕ) × IsFirstWith g key words (first_way g key) 0 way × IsLiveWord (state_in g words (first_way g key + way))
+IsExact g key words new Hit = (way : ℕ) × IsFirstWith g key words (first_way g key) 0 way
+    × IsLiveWord (state_in g words (first_way g key + way))
 IsExact g key words new Filled = IsInNoWay g key words × HasFreeWay g key words × HasArena g key words
 IsExact g key words new (Bypass (Busy word)) =
-    (way : ℕ) × IsFirstWith g key words (first_way g key) 0 way × (word ≡ state_in g words (first_way g key + way)) × (IsLiveWord word → ⊥) × (new.known ≡ Some words)
+    (way : ℕ) × IsFirstWith g key words (first_way g key) 0 way × (word ≡ state_in g words (first_way g key + way))
+    × (IsLiveWord word → ⊥) × (new.known ≡ Some words)
 IsExact g key words new (Bypass (SetFull states)) =
     IsInNoWay g key words × ((way : ℕ) → way < 8 → state_in g words (first_way g key + way) ≢ 8) × (new.known ≡ Some words)
-IsExact g key words new (Bypass (NoRoom seen)) = IsInNoWay g key words × HasFreeWay g key words × HasNoArena g key words × (new.known ≡ Some words)
+IsExact g key words new (Bypass (NoRoom seen)) = IsInNoWay g key words × HasFreeWay g key words × HasNoArena g key words
+    × (new.known ≡ Some words)
 IsExact g key words new (Bypass (Raced saw)) = ⊥
 IsExact g key words new (Bypass PolicyOut) = ⊥

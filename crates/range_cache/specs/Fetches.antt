@@ -79,7 +79,8 @@ IsLost ss how = (header saw : ℕ) × (how ≡ Bypass (Raced saw)) × Among (Mis
 
 -- The seat fetched a range by these steps, with that answer. A pin of the key makes it a hit; a grant makes it filled, or the
 -- header was lost; and an opening makes it filled. If the seat knows the words, the answer follows from them.
-pub record IsFetch (files : Option Files) (g : Geometry) (id : ℕ) (key : Key) (ss : List WordStep) (old new : View) (ranged : Ranged) : Type 0 where
+pub record IsFetch (files : Option Files) (g : Geometry) (id : ℕ) (key : Key) (ss : List WordStep) (old new : View)
+    (ranged : Ranged) : Type 0 where
   pub right : AreRight files g id key (IsHit ranged.how) old [] old ss new
   pub leaves : Leaves old new ranged
   pub tells : Tells g key ss ranged.how
@@ -101,7 +102,8 @@ Fetches files pool old new key ranged =
     (ss : List WordStep) × IsFetch files (sizes_of pool) (seat_id old) key ss (view old) (view new) ranged
 
 abbrev pub FailsToFetch : {W : Type 0} → Option Files → Pool W → PoolSeat W → PoolSeat W → Key → Type 0
-FailsToFetch files pool old new key = (ss : List WordStep) × IsFailedFetch files (sizes_of pool) (seat_id old) key ss (view old) (view new)
+FailsToFetch files pool old new key = (ss : List WordStep)
+    × IsFailedFetch files (sizes_of pool) (seat_id old) key ss (view old) (view new)
 
 -- ---- what is read of the store
 

@@ -74,7 +74,8 @@ IsReadable files ranged scratch = ScratchFits files ranged.held scratch
 
 -- loads of the pin's cells that hold a byte of the part, each once; or none
 abbrev pub ReadsGrip : {W : Type 0} → Option Files → Pool W → PoolSeat W → PoolSeat W → Grip → ℕ → List ℕ → Type 0
-ReadsGrip files pool old new (grip.Pin pin) at bytes = (found : List ℕ) × AreRead files pool (seat_id old) pin at bytes found (view old) (view new)
+ReadsGrip files pool old new (grip.Pin pin) at bytes = (found : List ℕ)
+    × AreRead files pool (seat_id old) pin at bytes found (view old) (view new)
 ReadsGrip files pool old new (grip.Bypass key) at bytes = view new ≡ view old
 
 abbrev pub IsReading : {W : Type 0} → Option Files → Pool W → PoolSeat W → PoolSeat W → Ranged → ℕ → List ℕ → Type 0
@@ -82,7 +83,8 @@ IsReading files pool old new ranged at bytes = ReadsGrip files pool old new rang
 
 -- a pin's count is taken back; or nothing is done
 abbrev pub EndsGrip : {W : Type 0} → Option Files → Pool W → PoolSeat W → PoolSeat W → Grip → Type 0
-EndsGrip files pool old new (grip.Pin pin) = (found : ℕ) × IsMade files (sizes_of pool) (seat_id old) (Uncounted (pin_header pin) found) (view old) (view new)
+EndsGrip files pool old new (grip.Pin pin) = (found : ℕ)
+    × IsMade files (sizes_of pool) (seat_id old) (Uncounted (pin_header pin) found) (view old) (view new)
 EndsGrip files pool old new (grip.Bypass key) = view new ≡ view old
 
 abbrev pub IsDone : {W : Type 0} → Option Files → Pool W → PoolSeat W → PoolSeat W → Ranged → Type 0

@@ -1,7 +1,5 @@
-use Rattle.std.proofs.Common.{◌≡◌, ◌≢◌, ℕ, ◌<◌, length, arith, sym, subst, ◌∙◌}
-use Rattle.std.specs.Prelude.{Option, Some}
+use Rattle.std.proofs.Common.{◌≡◌, ◌≢◌, ◌<◌, length, arith, sym, subst, ◌∙◌}
 use Rattle.pool_rule.specs.declared.view.Hold.TheVariants.{Free, Pinned}
-use Rattle.pool_rule.specs.declared.view.View.{View}
 use Rattle.pool_rule.specs.Layout.{headers_of}
 use Rattle.pool_rule.specs.Seats.{mark_at}
 use Rattle.buffer_pool.specs.declared.pool.Pool.{Pool}
@@ -9,7 +7,6 @@ use Rattle.buffer_pool.specs.declared.seat.PoolSeat.{PoolSeat}
 use Rattle.buffer_pool.specs.declared.token.Pin.{Pin}
 use Rattle.buffer_pool.specs.Pools.{IsPinOf, pin_header, seat_id, sizes_of, view}
 use Rattle.range_cache.specs.declared.ranged.Grip.{Grip}
-use Rattle.range_cache.specs.declared.ranged.Grip.TheVariants as grip
 use Rattle.range_cache.specs.Caches.{pool_of}
 use Rattle.range_cache.specs.Ranges.{IsGripOf, LeavesGrip}
 use Rattle.range_cache.proofs.ranged.Ranged.done.Goals as goal
