@@ -1,0 +1,5 @@
+//! Tests of the readers of rows over their public calls.
+#![tactic(auto)]
+
+#[cfg(test)]
+mod direct_reads;
