@@ -1,5 +1,5 @@
 -- What a column is doesn't depend on its place among those that are read.
-use Rattle.std.proofs.Common.{◌≡◌, ℕ, List}
+use Rattle.std.proofs.Common.{ℕ, List}
 use Rattle.orc_values.specs.declared.value.Value.{Value}
 use Rattle.orc_columns.specs.declared.fault.ColumnFault.{ColumnFault}
 use Rattle.orc_columns.specs.Column.{Streams, IsColumn, Fails}

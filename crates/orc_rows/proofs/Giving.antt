@@ -1,17 +1,17 @@
 -- A stripe's columns, started and given batch by batch, are its rows.
-use Rattle.std.proofs.Common.{◌≡◌, ℕ, ◌+◌, ◌<◌, ◌≤◌, List, [], ◌∷◌, ◌++◌, length, Option, None, Ok, Err, refl, sym, ◌∙◌, ap, subst, arith, inl, inr}
+use Rattle.std.proofs.Common.{◌≡◌, ℕ, ◌+◌, ◌<◌, ◌≤◌, List, [], ◌∷◌, ◌++◌, length, Option, Ok, Err, refl, sym, ◌∙◌, ap, subst, arith, inl, inr}
 use Rattle.std.specs.Prelude.{Result, IfOk}
 use Rattle.outside.specs.declared.file_ref.FileRef.{FileRef}
-use Rattle.outside.specs.Cause.{Cause, Rose}
+use Rattle.outside.specs.Cause.{Rose}
 use Rattle.outside.specs.Feed.{Taken}
-use Rattle.outside.specs.Files.{Files, HasBytes}
+use Rattle.outside.specs.Files.{Files}
 use Rattle.orc_columns.specs.declared.fault.ColumnFault.{ColumnFault}
 use Rattle.orc_columns.specs.declared.fault.ColumnFault.TheVariants.{BadEncoding, Run, NegativeLength, LengthsPastData, IndexOutOfDictionary, Read, NoMemory}
 use Rattle.orc_columns.specs.declared.plan.ColumnPlan.{ColumnPlan}
-use Rattle.orc_columns.specs.Column.{Streams, IsColumn, Fails}
-use Rattle.orc_columns.specs.Draws.{FailedToRead, Decided}
+use Rattle.orc_columns.specs.Column.{Streams, IsColumn}
+use Rattle.orc_columns.specs.Draws.{Decided}
 use Rattle.orc_columns.specs.Laws.{GivesTheColumn, NeverBoth}
-use Rattle.orc_columns.specs.Midway.{ReaderOf, Midway}
+use Rattle.orc_columns.specs.Midway.{ReaderOf}
 use Rattle.orc_columns.specs.Turns.{InTurn}
 use Rattle.orc_tail.specs.declared.stripe_footer.StripeFooter.{StripeFooter}
 use Rattle.orc_streams.specs.declared.layout.ColumnLayout.{ColumnLayout}
@@ -19,14 +19,14 @@ use Rattle.orc_streams.specs.declared.layout.ReadColumn.{ReadColumn}
 use Rattle.orc_streams.specs.Acts.{Act, take_acts}
 use Rattle.orc_streams.specs.Laws.{PlansAreApart}
 use Rattle.orc_streams.specs.Layout.{layout_in, plan_at, plans_from, streams_in}
-use Rattle.orc_batches.specs.Batch.{Batch, Piece, pieces_of, joined, AreCut}
+use Rattle.orc_batches.specs.Batch.{Batch, Piece, joined, AreCut}
 use Rattle.orc_batches.specs.Batches.{plans_of, kinds_of, ApartFrom, AllApart, TellsEach}
 use Rattle.orc_batches.specs.Walk.{rounds, EachMidway, OneFailsWithin, WalkTurns, WalkCuts, WalkedTo, Eaten, Walked}
 use Rattle.orc_rows.specs.Given.{kinds_in, no_rows}
-use Rattle.orc_rows.specs.Rows.{HasValues, HaveValues}
+use Rattle.orc_rows.specs.Rows.{HaveValues}
 use Rattle.orc_rows.specs.Starting.{layouts_in, starts_in, EachStarts}
-use Rattle.orc_rows.specs.StripeWalk.{ColumnActs, GivesSaid, Gives}
-use Rattle.orc_rows.proofs.AnyPlace.{column_anywhere, fails_anywhere}
+use Rattle.orc_rows.specs.Giving.{ColumnActs, GivesSaid, Gives}
+use Rattle.orc_rows.proofs.AnyPlace.{column_anywhere}
 
 -- ---- the plans of a footer's columns
 

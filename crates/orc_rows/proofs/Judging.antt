@@ -1,9 +1,9 @@
 -- Columns are judged, one after the other.
-use Rattle.std.proofs.Common.{◌≡◌, ℕ, ◌+◌, ◌≤◌, List, [], ◌∷◌, ◌++◌, length, Option, Some, None, Ok, Err, refl, sym, ◌∙◌, ap, subst, arith, inl, inr}
+use Rattle.std.proofs.Common.{◌≡◌, ℕ, ◌≤◌, List, [], ◌∷◌, ◌++◌, length, Option, Some, None, Ok, Err, sym, subst, arith, inl, inr}
 use Rattle.std.specs.Prelude.{Result, IfOk, IfSome}
 use Rattle.outside.specs.declared.failed.Failed.{Failed}
 use Rattle.outside.specs.declared.file_ref.FileRef.{FileRef}
-use Rattle.outside.specs.Cause.{Cause, Rose}
+use Rattle.outside.specs.Cause.{Rose}
 use Rattle.outside.specs.Feed.{Taken}
 use Rattle.outside.specs.Files.{Files, HasBytes}
 use Rattle.orc_columns.specs.declared.fault.ColumnFault.{ColumnFault}
@@ -21,7 +21,7 @@ use Rattle.orc_streams.specs.Layout.{layout_in, plan_at, streams_in}
 use Rattle.orc_streams.specs.Openings.{spans_of, openings_at, OpensAll}
 use Rattle.orc_rows.specs.declared.judge.Refused.{Refused}
 use Rattle.orc_rows.specs.Judging.{IsContent, FindsOne, FindsFirst, JudgesOne, JudgesEach}
-use Rattle.orc_rows.specs.Rows.{HasValues, FirstColumnFails}
+use Rattle.orc_rows.specs.Rows.{FirstColumnFails}
 use Rattle.orc_rows.proofs.AnyPlace.{column_anywhere, fails_anywhere}
 
 module _ {S : Type 0} (did : S → List Act → S → Type 0) (count : S → ℕ) (files : Option Files) (file : FileRef)

@@ -1,5 +1,5 @@
 -- The rows of stripes, and their first fault, are one; and there is one of the two.
-use Rattle.std.proofs.Common.{◌≡◌, ℕ, ◌+◌, ◌≤◌, List, [], ◌∷◌, ◌++◌, length, Ok, Err, refl, sym, ◌∙◌, ap, subst, arith, inl, inr}
+use Rattle.std.proofs.Common.{◌≡◌, ℕ, ◌+◌, List, [], ◌∷◌, length, Ok, Err, refl, sym, ◌∙◌, ap, subst, arith, inl, inr}
 use Rattle.std.specs.Prelude.{Result, ◌⊎◌}
 use Rattle.orc_values.specs.Column.{RowValues}
 use Rattle.orc_columns.specs.declared.fault.ColumnFault.{ColumnFault}

@@ -1,5 +1,5 @@
 -- Columns are opened and started, one after the other.
-use Rattle.std.proofs.Common.{◌≡◌, ℕ, ◌+◌, ◌<◌, ◌≤◌, List, [], ◌∷◌, ◌++◌, length, Option, None, Ok, Err, refl, sym, ◌∙◌, ap, subst, arith, inl, inr}
+use Rattle.std.proofs.Common.{◌≡◌, ℕ, ◌+◌, List, [], ◌∷◌, ◌++◌, length, Option, None, Ok, Err, refl, sym, ◌∙◌, ap, arith, inl, inr}
 use Rattle.std.specs.Prelude.{Result, IfOk}
 use Rattle.outside.specs.declared.file_ref.FileRef.{FileRef}
 use Rattle.outside.specs.Cause.{Cause, Rose}
@@ -21,10 +21,9 @@ use Rattle.orc_tail.specs.declared.stripe_footer.StripeFooter.{StripeFooter}
 use Rattle.orc_streams.specs.Acts.{Act, take_acts}
 use Rattle.orc_streams.specs.Laws.{PlansAreApart}
 use Rattle.orc_streams.specs.Layout.{plan_at, plans_from, streams_in}
-use Rattle.orc_streams.specs.Openings.{spans_of, openings_at, all_opened, OpensAll}
-use Rattle.orc_batches.specs.Batches.{plans_of, AllFresh, TellsEach}
+use Rattle.orc_streams.specs.Openings.{spans_of, openings_at, OpensAll}
+use Rattle.orc_batches.specs.Batches.{plans_of, AllFresh}
 use Rattle.orc_batches.specs.Walk.{EachMidway, OneFailsWithin}
-use Rattle.orc_rows.specs.Given.{no_rows}
 use Rattle.orc_rows.specs.Starting.{layouts_in, starts_in, StartActs, EachStartActs, StartSaid, Starts, EachStartSaid, EachStarts}
 
 module _ {S : Type 0} (did : S → List Act → S → Type 0) (rest : S → ℕ → Option (List ℕ)) (fed : S → List Taken → S → Type 0) (count : S → ℕ) (files : Option Files) (file : FileRef)

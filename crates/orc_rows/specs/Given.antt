@@ -1,5 +1,5 @@
 -- The pieces in which rows are given, stripe by stripe. Source: this project's own.
-use Rattle.std.specs.Prelude.{◌≡◌, ℕ, List, [], ◌∷◌, ◌++◌, Option}
+use Rattle.std.specs.Prelude.{◌≡◌, ℕ, List, [], ◌∷◌}
 use Rattle.orc_streams.specs.declared.layout.ReadColumn.{ReadColumn}
 use Rattle.orc_batches.specs.Batch.{Batch, Piece, columns as of_columns, count as of_count, pieces_of, joined, AreCut}
 

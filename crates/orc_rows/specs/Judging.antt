@@ -1,7 +1,6 @@
 -- Columns of a stripe are judged in their order. Source: this project's own.
-use Rattle.std.specs.Prelude.{◌≡◌, ℕ, List, Option, Some, None, Result, Ok, Err, IfOk, IfSome}
+use Rattle.std.specs.Prelude.{ℕ, List, Option, Some, None, Result, IfOk, IfSome}
 use Rattle.outside.specs.declared.file_ref.FileRef.{FileRef}
-use Rattle.outside.specs.declared.run_fault.RunFault.TheVariants as run
 use Rattle.outside.specs.Cause.{Cause}
 use Rattle.outside.specs.Files.{Files, HasBytes}
 use Rattle.orc_values.specs.Column.{RowValues}

@@ -3,7 +3,7 @@
 --
 -- Source: Apache ORC specification v1, "File Structure". That without a column to read no footer is looked at, and which fault
 -- counts, are this project's own.
-use Rattle.std.specs.Prelude.{◌≡◌, ℕ, ◌+◌, List, [], ◌∷◌, length, Result, Ok, Err}
+use Rattle.std.specs.Prelude.{◌≡◌, ℕ, ◌+◌, List, [], ◌∷◌, length, Ok, Err}
 use Rattle.orc_values.specs.Column.{RowValues}
 use Rattle.orc_columns.specs.declared.fault.ColumnFault.{ColumnFault}
 use Rattle.orc_columns.specs.Column.{IsColumn, Fails}

@@ -5,11 +5,9 @@ mod fault;
 mod judge;
 pub mod laws;
 mod start;
-mod stop;
 mod stripe;
 
 pub use fault::RowsFault;
 pub use judge::{Refused, judge_column, judge_columns};
 pub use start::{start_column, start_columns};
-pub use stop::Stop;
 pub use stripe::give_columns;

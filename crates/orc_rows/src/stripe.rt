@@ -1,26 +1,19 @@
-//! The rows of one stripe.
-ghost use Rattle.std.specs.Prelude.{◌≡◌, ◌<◌, ◌≤◌, ℕ, List, length, IfErr};
-ghost use Rattle.outside.specs.Files.{HasBytes};
+//! The columns of a stripe, given to a consumer.
+ghost use Rattle.std.specs.Prelude.{◌≡◌, ◌≤◌, length, IfErr};
 ghost use Rattle.orc_columns.specs.Batches.{HoldsNoRead};
 ghost use Rattle.orc_streams.specs.declared.layout.ReadColumn.{ReadColumn};
 ghost use Rattle.orc_streams.specs.Layout.{layout_in, EndsBy};
 ghost use Rattle.orc_streams.specs.Readable.{IsReadable};
-ghost use Rattle.orc_tail.specs.Tail.{stripe_end};
-ghost use Rattle.orc_batches.specs.Batch.{Batch};
 ghost use Rattle.orc_rows.specs.Given.{kinds_in};
-ghost use Rattle.orc_rows.specs.Rows.{HaveValues};
-ghost use Rattle.orc_rows.specs.StripeWalk.{Gives};
+ghost use Rattle.orc_rows.specs.Giving.{Gives};
 
-use crate::fault::RowsFault;
-use crate::judge::judge_columns;
 use crate::start::start_columns;
-use crate::stop::Stop;
 use orc_batches::{Consumer, give_rows};
 use orc_columns::laws::{a_column_is_one, a_reader_gives_the_column};
 use orc_columns::{Column, ColumnFault};
-use orc_streams::laws::{layouts_end_in_the_stripe, plans_are_apart};
-use orc_streams::{OpenFault, ReadColumn, StreamReader};
-use orc_tail::{Stripe, StripeFooter, TailFault, read_stripe_footer};
+use orc_streams::laws::plans_are_apart;
+use orc_streams::{ReadColumn, StreamReader};
+use orc_tail::StripeFooter;
 use outside::{FileRef, World};
 use std::alloc::Global;
 

@@ -1,111 +1,24 @@
--- The walk over one stripe: its acts, and what is said of its rows. Source: this project's own.
-use Rattle.std.specs.Prelude.{◌≡◌, ℕ, ◌⊎◌, List, [], ◌∷◌, ◌++◌, Option, Result, Ok, Err, IfOk}
-use Rattle.outside.specs.declared.failed.Failed.{Failed}
+-- The walk over stripes: its acts, and what it gives. Source: this project's own.
+use Rattle.std.specs.Prelude.{◌≡◌, ◌≤◌, ℕ, List, [], ◌∷◌, ◌++◌, Option, Result, Ok, IfOk}
 use Rattle.outside.specs.declared.file_ref.FileRef.{FileRef}
 use Rattle.outside.specs.Cause.{Cause}
-use Rattle.outside.specs.Feed.{Taken}
 use Rattle.outside.specs.Files.{Files, HasBytes, range_of}
 use Rattle.outside.specs.Followed.{OfFile, all_read}
 use Rattle.outside.specs.Reads.{ReadEntry}
 use Rattle.orc_columns.specs.declared.fault.ColumnFault.{ColumnFault}
-use Rattle.orc_columns.specs.declared.fault.ColumnFault.TheVariants.{BadEncoding, Run, NegativeLength, LengthsPastData, IndexOutOfDictionary, Read, NoMemory}
-use Rattle.orc_columns.specs.Draws.{FailedToRead, Decided}
-use Rattle.orc_columns.specs.Turns.{InTurn}
-use Rattle.orc_tail.specs.declared.fault.TailFault.{TailFault}
-use Rattle.orc_tail.specs.declared.fault.TailFault.TheVariants as tail
 use Rattle.orc_tail.specs.declared.stripe.Stripe.{Stripe}
 use Rattle.orc_tail.specs.declared.stripe_footer.StripeFooter.{StripeFooter}
 use Rattle.orc_tail.specs.StripeFooter.{stripe_footer, footer_at}
 use Rattle.orc_streams.specs.declared.layout.ReadColumn.{ReadColumn}
-use Rattle.orc_streams.specs.Acts.{Act, closes, read_acts, take_acts}
-use Rattle.orc_streams.specs.Layout.{plans_from}
+use Rattle.orc_streams.specs.Acts.{Act, closes, read_acts}
 use Rattle.orc_batches.specs.Batch.{Batch, Piece, pieces_of, joined, AreCut}
-use Rattle.orc_batches.specs.Walk.{rounds, Eaten}
 use Rattle.orc_rows.specs.declared.fault.RowsFault.{RowsFault}
-use Rattle.orc_rows.specs.declared.fault.RowsFault.TheVariants.{BrokenFooter, BrokenColumn}
-use Rattle.orc_rows.specs.declared.stop.Stop.{Stop}
-use Rattle.orc_rows.specs.declared.stop.Stop.TheVariants as stop
+use Rattle.orc_rows.specs.declared.fault.RowsFault.TheVariants.{BrokenColumn}
+use Rattle.orc_walk.specs.declared.stop.Stop.{Stop}
 use Rattle.orc_rows.specs.Given.{kinds_in, no_rows, batches_in, values_in, AreStripePieces}
-use Rattle.orc_rows.specs.Judging.{IsContent}
 use Rattle.orc_rows.specs.Rows.{HaveValues, FirstColumnFails, StripeHas, StripeFails, HaveRows, FirstFails}
-use Rattle.orc_rows.specs.Starting.{layouts_in, EachStartActs}
-
--- The columns of a stripe's footer were opened and started, and then their batches were taken.
-pub record ColumnActs (file : FileRef) (footer : StripeFooter) (columns : List ReadColumn) (batches : List Batch) (acts : List Act) : Type 0 where
-  pub starts : List Act
-  pub takes : List Taken
-  pub acts_are : acts ≡ starts ++ take_acts takes
-  pub started : EachStartActs file 0 (layouts_in footer columns) starts
-  pub turns : InTurn (rounds (plans_from 0 (layouts_in footer columns)) batches) takes
-
--- what is said of a stripe's columns by its footer: these values, or that they have none
-abbrev pub GivesSaid : {Y : Type 0} → List ℕ → StripeFooter → List ReadColumn → ℕ → List Batch → Result Y ColumnFault → Type 0
-GivesSaid bytes footer columns rows batches (Ok y) = HaveValues bytes footer rows columns (joined (no_rows columns) batches)
-GivesSaid bytes footer columns rows batches (Err fault) = Decided (λ _. (values : Batch) → HaveValues bytes footer rows columns values → ⊥) fault
-
-module _ {S C : Type 0} (did : S → List Act → S → Type 0) (count : S → ℕ) (files : Option Files) (ate : C → List Piece → C → Type 0) (file : FileRef) where
-  -- The columns of a stripe were given, by its footer.
-  pub record Gives {Y : Type 0} (footer : StripeFooter) (columns : List ReadColumn) (rows : ℕ) (before after : S) (eater eater' : C) (answer : Result Y ColumnFault) : Type 0 where
-    pub batches : List Batch
-    pub eaten : Eaten (ate eater (pieces_of batches) eater') answer
-    pub cut : IfOk answer (λ y. AreCut (kinds_in columns) rows batches)
-    pub acts : List Act
-    pub by : did before acts after
-    pub order : IfOk answer (λ y. ColumnActs file footer columns batches acts)
-    pub cause : Cause (count before) (count after) (FailedToRead answer)
-    pub given : (bytes : List ℕ) → HasBytes files file bytes → GivesSaid bytes footer columns rows batches answer
-
--- ---- why a walk stops
-
--- a fault of a column: the content's own, a failed read, or want of memory
-abbrev pub stop_of_column : ColumnFault → Stop ColumnFault
-stop_of_column (Read failed) = stop.Read failed
-stop_of_column NoMemory = stop.NoMemory
-stop_of_column BadEncoding = stop.Fault BadEncoding
-stop_of_column (Run name fault) = stop.Fault (Run name fault)
-stop_of_column NegativeLength = stop.Fault NegativeLength
-stop_of_column LengthsPastData = stop.Fault LengthsPastData
-stop_of_column IndexOutOfDictionary = stop.Fault IndexOutOfDictionary
-
--- and so of the footer of the stripe of a number
-abbrev pub stop_of_footer : ℕ → TailFault → Stop RowsFault
-stop_of_footer number (tail.Read failed) = stop.Read failed
-stop_of_footer number tail.NoMemory = stop.NoMemory
-stop_of_footer number tail.TooShort = stop.Fault (BrokenFooter number tail.TooShort)
-stop_of_footer number tail.NotOrc = stop.Fault (BrokenFooter number tail.NotOrc)
-stop_of_footer number (tail.Compressed kind) = stop.Fault (BrokenFooter number (tail.Compressed kind))
-stop_of_footer number (tail.Wire fault) = stop.Fault (BrokenFooter number (tail.Wire fault))
-stop_of_footer number tail.OutOfFile = stop.Fault (BrokenFooter number tail.OutOfFile)
-stop_of_footer number tail.BadTypes = stop.Fault (BrokenFooter number tail.BadTypes)
-stop_of_footer number tail.TooLarge = stop.Fault (BrokenFooter number tail.TooLarge)
-stop_of_footer number tail.RootPresent = stop.Fault (BrokenFooter number tail.RootPresent)
-stop_of_footer number tail.StreamOutOfStripe = stop.Fault (BrokenFooter number tail.StreamOutOfStripe)
-
--- the consumer took so, unless memory was refused
-abbrev pub EatenBy : {Y : Type 0} → Type 0 → Result Y (Stop RowsFault) → Type 0
-EatenBy Ate (Ok y) = Ate
-EatenBy Ate (Err (stop.Fault fault)) = Ate
-EatenBy Ate (Err (stop.Read failed)) = Ate
-EatenBy Ate (Err stop.NoMemory) = Unit {0}
-
--- a read failed
-abbrev pub StoppedByRead : {Y : Type 0} → Result Y (Stop RowsFault) → Type 0
-StoppedByRead (Ok y) = ⊥
-StoppedByRead (Err (stop.Fault fault)) = ⊥
-StoppedByRead (Err (stop.Read failed)) = Unit {0}
-StoppedByRead (Err stop.NoMemory) = ⊥
-
--- this is so of a fault of the content
-abbrev pub IfFault : {Y : Type 0} → Result Y (Stop RowsFault) → (RowsFault → Type 0) → Type 0
-IfFault (Ok y) P = Unit {0}
-IfFault (Err (stop.Fault fault)) P = P fault
-IfFault (Err (stop.Read failed)) P = Unit {0}
-IfFault (Err stop.NoMemory) P = Unit {0}
-
--- the content's own fault: neither a failed read nor want of memory
-abbrev pub IsRowsContent : RowsFault → Type 0
-IsRowsContent (BrokenFooter number fault) = (failed : Failed) → (fault ≡ tail.Read failed) ⊎ (fault ≡ tail.NoMemory) → ⊥
-IsRowsContent (BrokenColumn number which fault) = IsContent fault
+use Rattle.orc_rows.specs.Giving.{ColumnActs}
+use Rattle.orc_walk.specs.Stops.{EatenBy, StoppedByRead, IfFault, IsRowsContent, IsReadStop, IfFaulty}
 
 -- ---- the columns of a stripe
 
@@ -113,6 +26,16 @@ IsRowsContent (BrokenColumn number which fault) = IsContent fault
 abbrev pub ColumnsFail : List ℕ → StripeFooter → List ReadColumn → ℕ → ℕ → RowsFault → Type 0
 ColumnsFail bytes footer columns rows number broken =
     (which : ℕ) × (fault : ColumnFault) × (broken ≡ BrokenColumn number which fault) × FirstColumnFails bytes footer rows columns which fault
+
+-- The first of the columns that fails was looked for: by some acts, a failed read has its cause, a fault is the content's own, and
+-- where the file is told it is that of the stripe.
+pub record Blames {S : Type 0} (did : S → List Act → S → Type 0) (count : S → ℕ) (files : Option Files) (file : FileRef) (footer : StripeFooter)
+    (columns : List ReadColumn) (rows number : ℕ) (before after : S) (why : Stop RowsFault) : Type 0 where
+  pub acts : List Act
+  pub by : did before acts after
+  pub cause : Cause (count before) (count after) (IsReadStop why)
+  pub content : IfFaulty why IsRowsContent
+  pub fails : (bytes : List ℕ) → HasBytes files file bytes → IfFaulty why (ColumnsFail bytes footer columns rows number)
 
 module _ {S C : Type 0} (did : S → List Act → S → Type 0) (count : S → ℕ) (files : Option Files) (ate : C → List Piece → C → Type 0) (file : FileRef) where
   -- The columns were given, or the first that fails was found.
@@ -165,6 +88,16 @@ module _ {S C : Type 0} (did : S → List Act → S → Type 0) (count : S → �
     pub content : IfFault answer IsRowsContent
     pub has : (bytes : List ℕ) → HasBytes files file bytes → IfOk answer (λ y. StripeHas bytes stripe columns (values_in columns pieces))
     pub fails : (bytes : List ℕ) → HasBytes files file bytes → IfFault answer (StripeFails bytes number stripe columns)
+
+  -- So many stripes were walked.
+  pub record StripesSoFar (stripes : List Stripe) (before after : S) (eater eater' : C) : Type 0 where
+    pub pieces : List Piece
+    pub eaten : ate eater pieces eater'
+    pub acts : List Act
+    pub by : did before acts after
+    pub walk : AreStripeWalks files file columns stripes pieces acts
+    pub later : count before ≤ count after
+    pub has : (bytes : List ℕ) → HasBytes files file bytes → (rows : ℕ) × HaveRows bytes columns stripes (record { count = rows; columns = values_in columns pieces })
 
   -- The same of stripes: where the file is told, their pieces join to their rows, or the first of them that fails fails so.
   pub record WalksStripes {Y : Type 0} (stripes : List Stripe) (before after : S) (eater eater' : C) (answer : Result Y (Stop RowsFault)) : Type 0 where
