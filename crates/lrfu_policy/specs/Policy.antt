@@ -1,5 +1,5 @@
 -- The policy: an entry for each header that has one. Source: after LRFU (Lee and others, 2001); the stepped form is this project's own.
-use Rattle.std.specs.Prelude.{◌==◌, ℕ, ◌+◌, ◌-◌, ◌*◌, ◌/◌, ◌^◌, min, max, if◌then◌else◌, List, Option, Some, None, slice_set}
+use Rattle.std.specs.Prelude.{◌==◌, ℕ, ◌+◌, ◌-◌, ◌*◌, ◌/◌, ◌^◌, min, max, if◌then◌else◌, List, Option, Some, None, slice_index_or, slice_set}
 use Rattle.lrfu_policy.specs.declared.entry.Entry.{Entry}
 
 -- the entries by header, and after how many ticks touches count for half
@@ -35,3 +35,8 @@ synced half_life key touches last (Some old) = record {
   e = half_lives half_life (max last old.last);
   last = max last old.last;
 }
+
+-- the policy after a sync of a header's key
+abbrev pub with_touches : ℕ → ℕ → ℕ → ℕ → Ranking → Ranking
+with_touches header key touches last p =
+    with_entry header (Some (synced p.half_life key touches last (with_key key (slice_index_or p.entries header None)))) p

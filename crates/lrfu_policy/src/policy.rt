@@ -1,7 +1,7 @@
 //! The policy: an entry for each header that has one, and the tournament over their ranks.
 
 ghost use Rattle.std.specs.Prelude.{◌≡◌, ◌+◌, ◌<◌, ◌≤◌, length, replicate, slice_index_or, Some, None, IfOk};
-ghost use Rattle.lrfu_policy.specs.Policy.{Ranking, synced, with_entry, with_key};
+ghost use Rattle.lrfu_policy.specs.Policy.{Ranking, with_entry, with_touches};
 ghost use Rattle.lrfu_policy.specs.Victim.{Among, IsLeast};
 
 use crate::entry::Entry;
@@ -56,12 +56,11 @@ impl Policy {
 
     /// Notes touches of a header's buffer, of which the last one was at tick `last`.
     ///
-    /// The header's entry is the one that `synced` gives, from the old entry where that is of the same key. The other
-    /// entries stay.
+    /// The header's entry is then made from the old one where that is of the same key, and else anew. The other entries
+    /// stay.
     pub fn sync(&mut self, header: u32, key: u64, touches: u64, last: u64)
         requires { header < length self.old.entries }
-        ensures { let old = with_key key (slice_index_or self.old.entries header None) in
-            self.new ≡ with_entry header (Some (synced self.old.half_life key touches last old)) self.old }
+        ensures { self.new ≡ with_touches header key touches last self.old }
     {
         let entry = synced_entry(
             self.half_life,

@@ -1,0 +1,2 @@
+pub mod Consults
+pub mod Leaving
