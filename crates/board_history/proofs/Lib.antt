@@ -1,0 +1,9 @@
+pub mod TotalSteps
+pub mod Lists
+pub mod Replays
+pub mod Soundness
+pub mod Adding
+pub mod Finishing
+pub mod Orders
+pub mod LastBlocked
+pub mod Counting

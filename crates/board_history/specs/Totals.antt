@@ -1,0 +1,83 @@
+-- How often each thing happened in a history (this project's own).
+use Rattle.std.specs.Prelude.{ℕ, ◌+◌, ◌<◌, List, [], ◌∷◌}
+use Rattle.board_history.specs.declared.event.BoardEvent.{BoardEvent}
+use Rattle.board_history.specs.declared.event.BoardEvent.TheVariants as event
+use Rattle.board_history.specs.declared.totals.BoardTotals.{BoardTotals}
+
+-- how many events are of a kind, which gives 1 of it and 0 of another
+abbrev pub total : (BoardEvent → ℕ) → List BoardEvent → ℕ
+total kind [] = 0
+total kind (e ∷ es) = kind e + total kind es
+
+abbrev pub offers : BoardEvent → ℕ
+offers (event.Offered f) = 1
+offers (event.Evicted f) = 0
+offers (event.Rejected f) = 0
+offers (event.Started a) = 0
+offers (event.Preempted victim made_for) = 0
+offers (event.Finished a) = 0
+offers (event.GaveUp a) = 0
+
+abbrev pub starts : BoardEvent → ℕ
+starts (event.Offered f) = 0
+starts (event.Evicted f) = 0
+starts (event.Rejected f) = 0
+starts (event.Started a) = 1
+starts (event.Preempted victim made_for) = 0
+starts (event.Finished a) = 0
+starts (event.GaveUp a) = 0
+
+abbrev pub kills : BoardEvent → ℕ
+kills (event.Offered f) = 0
+kills (event.Evicted f) = 0
+kills (event.Rejected f) = 0
+kills (event.Started a) = 0
+kills (event.Preempted victim made_for) = 1
+kills (event.Finished a) = 0
+kills (event.GaveUp a) = 0
+
+abbrev pub finishes : BoardEvent → ℕ
+finishes (event.Offered f) = 0
+finishes (event.Evicted f) = 0
+finishes (event.Rejected f) = 0
+finishes (event.Started a) = 0
+finishes (event.Preempted victim made_for) = 0
+finishes (event.Finished a) = 1
+finishes (event.GaveUp a) = 0
+
+abbrev pub give_ups : BoardEvent → ℕ
+give_ups (event.Offered f) = 0
+give_ups (event.Evicted f) = 0
+give_ups (event.Rejected f) = 0
+give_ups (event.Started a) = 0
+give_ups (event.Preempted victim made_for) = 0
+give_ups (event.Finished a) = 0
+give_ups (event.GaveUp a) = 1
+
+-- how often each thing happened
+abbrev pub totals_of : List BoardEvent → BoardTotals
+totals_of es = record {
+  offered = total offers es;
+  started = total starts es;
+  killed = total kills es;
+  finished = total finishes es;
+  gave_up = total give_ups es;
+}
+
+-- with one event more
+abbrev pub counted : BoardTotals → BoardEvent → BoardTotals
+counted t e = record {
+  offered = t.offered + offers e;
+  started = t.started + starts e;
+  killed = t.killed + kills e;
+  finished = t.finished + finishes e;
+  gave_up = t.gave_up + give_ups e;
+}
+
+-- each of them is below a number
+pub record AllBelow (n : ℕ) (t : BoardTotals) : Type 0 where
+  pub offered : t.offered < n
+  pub started : t.started < n
+  pub killed : t.killed < n
+  pub finished : t.finished < n
+  pub gave_up : t.gave_up < n
