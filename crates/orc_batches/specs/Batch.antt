@@ -47,5 +47,6 @@ AllWhole kinds (batch ∷ batches) = IsBatch kinds batch_rows batch × AllWhole 
 -- So many rows are cut into batches of 1,024, behind which there may be one that has fewer, but not none.
 pub data AreCut (kinds : List ℕ) (rows : ℕ) : List Batch → Type 0 where
   whole : {batches : List Batch} → AllWhole kinds batches → rows ≡ batch_rows * length batches → AreCut kinds rows batches
-  shorter : (front : List Batch) (last : Batch) (count : ℕ) → AllWhole kinds front → IsBatch kinds count last → 0 < count → count < batch_rows
+  shorter : (front : List Batch) (last : Batch) (count : ℕ) → AllWhole kinds front → IsBatch kinds count last → 0 < count
+      → count < batch_rows
       → rows ≡ batch_rows * length front + count → AreCut kinds rows (front ++ last ∷ [])

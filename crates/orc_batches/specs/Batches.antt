@@ -50,9 +50,11 @@ pub data EachGoesOn : List ReaderOf → List ReaderOf → List Streams → List 
 
 -- One of the columns has no so many rows more, by this fault.
 pub data OneFails (rows : ℕ) : List ReaderOf → List Streams → ColumnFault → Type 0 where
-  here : {r : ReaderOf} {readers : List ReaderOf} {before : Streams} {befores : List Streams} {fault : ColumnFault} → RowsFail r rows before fault
+  here : {r : ReaderOf} {readers : List ReaderOf} {before : Streams} {befores : List Streams} {fault : ColumnFault}
+      → RowsFail r rows before fault
       → OneFails rows (r ∷ readers) (before ∷ befores) fault
-  later : {r : ReaderOf} {readers : List ReaderOf} {before : Streams} {befores : List Streams} {fault : ColumnFault} → OneFails rows readers befores fault
+  later : {r : ReaderOf} {readers : List ReaderOf} {before : Streams} {befores : List Streams} {fault : ColumnFault}
+      → OneFails rows readers befores fault
       → OneFails rows (r ∷ readers) (before ∷ befores) fault
 
 module _ {F : Type 0} (rest : F → ℕ → Option (List ℕ)) where
@@ -71,7 +73,8 @@ module _ {F : Type 0} (rest : F → ℕ → Option (List ℕ)) where
 
 -- A batch of each column: whatever was answered, takes are of the first column's streams in turn, then of the next one's, and so
 -- on; a failed read has its cause; and where the streams are told, each column's rows go on, or one of the columns fails.
-pub record EachDraws {F : Type 0} (rest : F → ℕ → Option (List ℕ)) (fed : F → List Taken → F → Type 0) (count : F → ℕ) (rows : ℕ) (first last : F)
+pub record EachDraws {F : Type 0} (rest : F → ℕ → Option (List ℕ)) (fed : F → List Taken → F → Type 0) (count : F → ℕ) (rows : ℕ)
+    (first last : F)
     (old new : List ReaderOf) (answer : Result Batch ColumnFault) : Type 0 where
   pub takes : List Taken
   pub led : fed first takes last

@@ -56,16 +56,20 @@ Eaten Ate (Err IndexOutOfDictionary) = Ate
 
 module _ {F : Type 0} (rest : F → ℕ → Option (List ℕ)) where
   -- behind so many rows, those of the batches were given, or one of the columns is refused
-  abbrev pub WalkedTo : {Y : Type 0} → ℕ → ℕ → F → List ReaderOf → List ReaderOf → List Batch → List Streams → Batch → Result Y ColumnFault → Type 0
+  abbrev pub WalkedTo : {Y : Type 0} → ℕ → ℕ → F → List ReaderOf → List ReaderOf → List Batch → List Streams → Batch
+      → Result Y ColumnFault → Type 0
   WalkedTo before rows last old new batches starts given (Ok y) =
-      (afters : List Streams) × TellsEach rest last (plans_of old) afters × EachMidway (before + rows) new starts (joined given batches) afters
+      (afters : List Streams) × TellsEach rest last (plans_of old) afters
+      × EachMidway (before + rows) new starts (joined given batches) afters
   WalkedTo before rows last old new batches starts given (Err fault) = Decided (OneFailsWithin (before + rows) (plans_of old) starts) fault
 
-module _ {F C : Type 0} (rest : F → ℕ → Option (List ℕ)) (fed : F → List Taken → F → Type 0) (count : F → ℕ) (ate : C → List Piece → C → Type 0) where
+module _ {F C : Type 0} (rest : F → ℕ → Option (List ℕ)) (fed : F → List Taken → F → Type 0) (count : F → ℕ)
+    (ate : C → List Piece → C → Type 0) where
   -- The walk over so many rows: the consumer took batches that are the rows, cut; the feed was taken from batch by batch, and in
   -- each column by column; a failed read has its cause; and where the streams are told, the batches join to the columns' rows
   -- behind those that were given before, or one of the columns is refused.
-  pub record Walked {Y : Type 0} (rows : ℕ) (first last : F) (eater eater' : C) (old new : List ReaderOf) (answer : Result Y ColumnFault) : Type 0 where
+  pub record Walked {Y : Type 0} (rows : ℕ) (first last : F) (eater eater' : C) (old new : List ReaderOf)
+      (answer : Result Y ColumnFault) : Type 0 where
     pub batches : List Batch
     pub eaten : Eaten (ate eater (pieces_of batches) eater') answer
     pub cuts : WalkCuts (plans_of old) rows batches answer
@@ -88,4 +92,5 @@ module _ {F C : Type 0} (rest : F → ℕ → Option (List ℕ)) (fed : F → Li
     pub later : count first ≤ count last
     pub told : (before : ℕ) (starts befores : List Streams) (before_rows : Batch) → TellsEach rest first (plans_of old) befores
         → EachMidway before old starts before_rows befores
-        → (afters : List Streams) × TellsEach rest last (plans_of old) afters × EachMidway (before + given) new starts (joined before_rows batches) afters
+        → (afters : List Streams) × TellsEach rest last (plans_of old) afters
+        × EachMidway (before + given) new starts (joined before_rows batches) afters

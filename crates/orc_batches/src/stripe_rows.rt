@@ -37,7 +37,8 @@ pub fn give_rows<F: Feed, C: Consumer>(
     ensures plans { plans_of readers.new ≡ plans_of readers.old }
     ensures beside { length batches.new ≡ length batches.old }
     ensures no_read { IfErr result HoldsNoRead }
-    ensures walked { Walked F.rest F.fed F.fault_count C.ate rows feed.old feed.new consumer.old consumer.new readers.old readers.new result }
+    ensures walked { Walked F.rest F.fed F.fault_count C.ate rows feed.old feed.new
+        consumer.old consumer.new readers.old readers.new result }
 {
     takes_in_turn_join();
     let mut given = 0;

@@ -18,7 +18,8 @@ use Rattle.orc_rows.specs.Rows.{HaveValues}
 use Rattle.orc_rows.specs.Starting.{layouts_in, EachStartActs}
 
 -- The columns of a stripe's footer were opened and started, and then their batches were taken.
-pub record ColumnActs (file : FileRef) (footer : StripeFooter) (columns : List ReadColumn) (batches : List Batch) (acts : List Act) : Type 0 where
+pub record ColumnActs (file : FileRef) (footer : StripeFooter) (columns : List ReadColumn) (batches : List Batch)
+    (acts : List Act) : Type 0 where
   pub starts : List Act
   pub takes : List Taken
   pub acts_are : acts ≡ starts ++ take_acts takes
@@ -28,11 +29,14 @@ pub record ColumnActs (file : FileRef) (footer : StripeFooter) (columns : List R
 -- what is said of a stripe's columns by its footer: these values, or that they have none
 abbrev pub GivesSaid : {Y : Type 0} → List ℕ → StripeFooter → List ReadColumn → ℕ → List Batch → Result Y ColumnFault → Type 0
 GivesSaid bytes footer columns rows batches (Ok y) = HaveValues bytes footer rows columns (joined (no_rows columns) batches)
-GivesSaid bytes footer columns rows batches (Err fault) = Decided (λ _. (values : Batch) → HaveValues bytes footer rows columns values → ⊥) fault
+GivesSaid bytes footer columns rows batches (Err fault) =
+    Decided (λ _. (values : Batch) → HaveValues bytes footer rows columns values → ⊥) fault
 
-module _ {S C : Type 0} (did : S → List Act → S → Type 0) (count : S → ℕ) (files : Option Files) (ate : C → List Piece → C → Type 0) (file : FileRef) where
+module _ {S C : Type 0} (did : S → List Act → S → Type 0) (count : S → ℕ) (files : Option Files) (ate : C → List Piece → C → Type 0)
+    (file : FileRef) where
   -- The columns of a stripe were given, by its footer.
-  pub record Gives {Y : Type 0} (footer : StripeFooter) (columns : List ReadColumn) (rows : ℕ) (before after : S) (eater eater' : C) (answer : Result Y ColumnFault) : Type 0 where
+  pub record Gives {Y : Type 0} (footer : StripeFooter) (columns : List ReadColumn) (rows : ℕ) (before after : S) (eater eater' : C)
+      (answer : Result Y ColumnFault) : Type 0 where
     pub batches : List Batch
     pub eaten : Eaten (ate eater (pieces_of batches) eater') answer
     pub cut : IfOk answer (λ y. AreCut (kinds_in columns) rows batches)

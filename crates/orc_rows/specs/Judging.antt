@@ -39,7 +39,8 @@ FindsFirst bytes footer columns rows (Some refused) = FirstColumnFails bytes foo
 module _ {S : Type 0} (did : S → List Act → S → Type 0) (count : S → ℕ) (files : Option Files) (file : FileRef) where
   -- A column was judged: by some acts, a failed read has its cause, a fault that is found is the content's own, and where the file
   -- is told it is what is found.
-  pub record JudgesOne (layout : ColumnLayout) (rows : ℕ) (before after : S) (answer : Result (Option ColumnFault) OpenFault) : Type 0 where
+  pub record JudgesOne (layout : ColumnLayout) (rows : ℕ) (before after : S)
+      (answer : Result (Option ColumnFault) OpenFault) : Type 0 where
     pub acts : List Act
     pub by : did before acts after
     pub cause : Cause (count before) (count after) (FailedToOpen answer)
@@ -47,7 +48,8 @@ module _ {S : Type 0} (did : S → List Act → S → Type 0) (count : S → ℕ
     pub told : (bytes : List ℕ) → HasBytes files file bytes → IfOk answer (FindsOne bytes layout rows)
 
   -- the same of columns
-  pub record JudgesEach (footer : StripeFooter) (columns : List ReadColumn) (rows : ℕ) (before after : S) (answer : Result (Option Refused) OpenFault) : Type 0 where
+  pub record JudgesEach (footer : StripeFooter) (columns : List ReadColumn) (rows : ℕ) (before after : S)
+      (answer : Result (Option Refused) OpenFault) : Type 0 where
     pub acts : List Act
     pub by : did before acts after
     pub cause : Cause (count before) (count after) (FailedToOpen answer)

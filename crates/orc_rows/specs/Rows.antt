@@ -58,7 +58,8 @@ pub data FirstColumnFails (file : List ℕ) (footer : StripeFooter) (rows : ℕ)
 -- The values of its columns. Where no column is read its footer isn't looked at.
 pub data StripeHas (file : List ℕ) (stripe : Stripe) : List ReadColumn → Batch → Type 0 where
   unread : StripeHas file stripe [] []
-  by_footer : {column : ReadColumn} {columns : List ReadColumn} {values : Batch} (footer : StripeFooter) → stripe_footer file stripe ≡ Ok footer
+  by_footer : {column : ReadColumn} {columns : List ReadColumn} {values : Batch} (footer : StripeFooter)
+      → stripe_footer file stripe ≡ Ok footer
       → HaveValues file footer stripe.rows (column ∷ columns) values → StripeHas file stripe (column ∷ columns) values
 
 -- The stripe, which has that number, fails so.
@@ -74,12 +75,14 @@ pub data StripeFails (file : List ℕ) (number : ℕ) (stripe : Stripe) : List R
 -- their rows, joined
 pub data HaveRows (file : List ℕ) (columns : List ReadColumn) : List Stripe → Rows → Type 0 where
   none : HaveRows file columns [] (record { count = 0; columns = no_rows columns })
-  next : {stripe : Stripe} {stripes : List Stripe} (values : Batch) (more : Rows) → StripeHas file stripe columns values → HaveRows file columns stripes more
+  next : {stripe : Stripe} {stripes : List Stripe} (values : Batch) (more : Rows) → StripeHas file stripe columns values
+      → HaveRows file columns stripes more
       → HaveRows file columns (stripe ∷ stripes) (record { count = stripe.rows + more.count; columns = behind values more.columns })
 
 -- The least of them that fails, where the first has that number, fails so.
 pub data FirstFails (file : List ℕ) (columns : List ReadColumn) : ℕ → List Stripe → RowsFault → Type 0 where
   here : {number : ℕ} {stripe : Stripe} {stripes : List Stripe} {fault : RowsFault} → StripeFails file number stripe columns fault
       → FirstFails file columns number (stripe ∷ stripes) fault
-  later : {number : ℕ} {stripe : Stripe} {stripes : List Stripe} {fault : RowsFault} (values : Batch) → StripeHas file stripe columns values
+  later : {number : ℕ} {stripe : Stripe} {stripes : List Stripe} {fault : RowsFault} (values : Batch)
+      → StripeHas file stripe columns values
       → FirstFails file columns (number + 1) stripes fault → FirstFails file columns number (stripe ∷ stripes) fault

@@ -39,12 +39,15 @@ pub record StartActs (file : FileRef) (index : ℕ) (layout : ColumnLayout) (act
 abbrev pub EachStartActs : FileRef → ℕ → List ColumnLayout → List Act → Type 0
 EachStartActs file index [] acts = acts ≡ []
 EachStartActs file index (layout ∷ layouts) acts =
-    (front : List Act) × (back : List Act) × (acts ≡ front ++ back) × StartActs file index layout front × EachStartActs file (index + 1) layouts back
+    (front : List Act) × (back : List Act) × (acts ≡ front ++ back) × StartActs file index layout front
+    × EachStartActs file (index + 1) layouts back
 
-module _ {S : Type 0} (did : S → List Act → S → Type 0) (rest : S → ℕ → Option (List ℕ)) (count : S → ℕ) (files : Option Files) (file : FileRef) where
+module _ {S : Type 0} (did : S → List Act → S → Type 0) (rest : S → ℕ → Option (List ℕ)) (count : S → ℕ) (files : Option Files)
+    (file : FileRef) where
   -- a reader of the column before its first row, or the condition that refuses it there
   abbrev pub StartSaid : ℕ → ColumnLayout → List ℕ → S → Result ReaderOf ColumnFault → Type 0
-  StartSaid index layout bytes after (Ok r) = (left : Streams) × Tells rest after (plan_at index layout) left × Midway r (streams_in bytes layout) [] left
+  StartSaid index layout bytes after (Ok r) =
+      (left : Streams) × Tells rest after (plan_at index layout) left × Midway r (streams_in bytes layout) [] left
   StartSaid index layout bytes after (Err fault) = Decided (Fails (plan_at index layout) (streams_in bytes layout) 0) fault
 
   -- A column was started: with these acts; other columns' streams stay as they are; a failed read has its cause; and where the
@@ -54,20 +57,25 @@ module _ {S : Type 0} (did : S → List Act → S → Type 0) (rest : S → ℕ 
     pub by : did before acts after
     pub order : IfOk answer (λ r. StartActs file index layout acts)
     pub cause : Cause (count before) (count after) (FailedToRead answer)
-    pub others : (i : ℕ) (l : ColumnLayout) (s : Streams) → (i ≡ index → ⊥) → Tells rest before (plan_at i l) s → Tells rest after (plan_at i l) s
+    pub others : (i : ℕ) (l : ColumnLayout) (s : Streams) → (i ≡ index → ⊥) → Tells rest before (plan_at i l) s
+        → Tells rest after (plan_at i l) s
     pub told : (bytes : List ℕ) → HasBytes files file bytes → StartSaid index layout bytes after answer
 
   -- the same of columns, of which the first has that place
   abbrev pub EachStartSaid : ℕ → List ColumnLayout → List ℕ → S → Result (List ReaderOf) ColumnFault → Type 0
   EachStartSaid index layouts bytes after (Ok readers) =
-      (lefts : List Streams) × TellsEach rest after (plans_from index layouts) lefts × EachMidway 0 readers (starts_in bytes layouts) (no_rows layouts) lefts
-  EachStartSaid index layouts bytes after (Err fault) = Decided (OneFailsWithin 0 (plans_from index layouts) (starts_in bytes layouts)) fault
+      (lefts : List Streams) × TellsEach rest after (plans_from index layouts) lefts
+      × EachMidway 0 readers (starts_in bytes layouts) (no_rows layouts) lefts
+  EachStartSaid index layouts bytes after (Err fault) =
+      Decided (OneFailsWithin 0 (plans_from index layouts) (starts_in bytes layouts)) fault
 
-  pub record EachStarts (index : ℕ) (layouts : List ColumnLayout) (before after : S) (answer : Result (List ReaderOf) ColumnFault) : Type 0 where
+  pub record EachStarts (index : ℕ) (layouts : List ColumnLayout) (before after : S)
+      (answer : Result (List ReaderOf) ColumnFault) : Type 0 where
     pub acts : List Act
     pub by : did before acts after
     pub order : IfOk answer (λ readers. EachStartActs file index layouts acts)
     pub readers : IfOk answer (λ readers. (plans_of readers ≡ plans_from index layouts) × AllFresh readers)
     pub cause : Cause (count before) (count after) (FailedToRead answer)
-    pub others : (i : ℕ) (l : ColumnLayout) (s : Streams) → i < index → Tells rest before (plan_at i l) s → Tells rest after (plan_at i l) s
+    pub others : (i : ℕ) (l : ColumnLayout) (s : Streams) → i < index → Tells rest before (plan_at i l) s
+        → Tells rest after (plan_at i l) s
     pub told : (bytes : List ℕ) → HasBytes files file bytes → EachStartSaid index layouts bytes after answer

@@ -64,7 +64,8 @@ pub fn start_columns<W: World, S: StreamReader<W>>(
     requires in_file { (column : ReadColumn) → EndsBy file.len (layout_in footer.now column) }
     ensures no_read { IfErr result HoldsNoRead }
     ensures starts { (started : List ReaderOf) × (readers.new.items ≡ readers.old.items ++ started)
-        × EachStarts S.did S.rest S.Feed.fault_count W.files file index (layouts_in footer.now columns.now) reader.old reader.new (placed started result) }
+        × EachStarts S.did S.rest S.Feed.fault_count W.files file index (layouts_in footer.now columns.now) reader.old reader.new
+        (placed started result) }
 {
     let Some((column, others)) = columns.split_first() else {
         return Ok(());

@@ -37,7 +37,8 @@ pub fn give_columns<W: World, S: StreamReader<W>, C: Consumer>(
     requires kinds { C.kinds consumer.old ≡ kinds_in columns.now }
     ensures beside { length batches.new ≡ length batches.old }
     ensures no_read { IfErr result HoldsNoRead }
-    ensures gives { Gives S.did S.Feed.fault_count W.files C.ate file footer.now columns.now rows reader.old reader.new consumer.old consumer.new result }
+    ensures gives { Gives S.did S.Feed.fault_count W.files C.ate file footer.now columns.now rows
+        reader.old reader.new consumer.old consumer.new result }
 {
     a_column_is_one();
     a_reader_gives_the_column();

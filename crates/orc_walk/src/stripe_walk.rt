@@ -40,7 +40,8 @@ fn blame<W: World, S: StreamReader<W>>(
     requires readable { IsReadable W.files file }
     requires in_file { (column : ReadColumn) → EndsBy file.len (layout_in footer.now column) }
     requires content { IsContent fault }
-    requires none { (bytes : List ℕ) → HasBytes W.files file bytes → (values : Batch) → HaveValues bytes footer.now rows columns.now values → ⊥ }
+    requires none { (bytes : List ℕ) → HasBytes W.files file bytes → (values : Batch)
+        → HaveValues bytes footer.now rows columns.now values → ⊥ }
     ensures blames { Blames S.did S.Feed.fault_count W.files file footer.now columns.now rows stripe reader.old reader.new result }
 {
     match judge_columns(alloc, reader, file, footer, 0, columns, rows) {
