@@ -123,6 +123,20 @@ impl Fold {
         })
     }
 
+    /// The scan, lent.
+    pub fn scan(&self) -> &Scan
+        ensures { result.now ≡ self.now.scan }
+    {
+        scan_at(&self.plan, self.fragment)
+    }
+
+    /// How many rows it was given; the greatest number of 64 bits where they are more.
+    pub fn rows(&self) -> u64
+        ensures { result ≡ self.now.rows }
+    {
+        self.rows
+    }
+
     /// Folds the rows of a batch: one column for each of the scan's `columns`, in that order, all of one length.
     ///
     /// It takes fewer than 2^63 rows over all its calls. A null meets no comparison, nor does a value of another kind than the literal.

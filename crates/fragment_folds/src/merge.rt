@@ -211,6 +211,13 @@ impl Merge {
         Ok(merge)
     }
 
+    /// How many answers it was given.
+    pub fn answers(&self) -> u64
+        ensures { result ≡ self.now.answers }
+    {
+        self.answers
+    }
+
     /// One answer more, of the first one's form; one of another form changes only how many there are.
     ///
     /// It takes fewer than 2^63 answers. `NoMemory` comes only where memory was refused, and gives the merge up.
