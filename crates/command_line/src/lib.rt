@@ -8,6 +8,6 @@ mod reading;
 mod settings;
 mod words;
 
-pub use pages::{HELP_PAGE, help_page, usage_line, version_line};
+pub use pages::{HELP_PAGE, help_page, page_asked_for, usage_line, version_line};
 pub use settings::{Options, WordsFault};
 pub use words::options;

@@ -1,6 +1,6 @@
 //! What the program says of itself: its usage line, its help page and its version.
-ghost use Rattle.std.specs.Prelude.{◌≡◌};
-ghost use Rattle.command_line.specs.Pages.{usage_text, version_text};
+ghost use Rattle.std.specs.Prelude.{◌≡◌, codes, map, option_map};
+ghost use Rattle.command_line.specs.Pages.{AskForHelp, AskForVersion, usage_text, version_text};
 
 /// The usage line, with the line's end: what is written where the words are no command line.
 pub fn usage_line() -> &'static [u8]
@@ -22,6 +22,32 @@ pub fn help_page() -> &'static [u8]
     ensures { result.now ≡ HELP_PAGE.now }
 {
     HELP_PAGE.as_bytes()
+}
+
+/// The page that the words ask for in place of a run: `--help` alone, or `--version` alone. Other words ask for none.
+pub fn page_asked_for(words: &[&str]) -> Option<&'static [u8]>
+    ensures help { AskForHelp (map (λ word. word.now) words.now) → option_map (λ page. page.now) result ≡ Some HELP_PAGE.now }
+    ensures version { AskForVersion (map (λ word. word.now) words.now) → option_map (λ page. page.now) result ≡ Some version_text }
+    ensures other { (AskForHelp (map (λ word. word.now) words.now) → ⊥)
+        → (AskForVersion (map (λ word. word.now) words.now) → ⊥) → result ≡ None }
+{
+    match words {
+        [word] => page_named(word),
+        _ => None,
+    }
+}
+
+/// The page that one word asks for.
+fn page_named(word: &str) -> Option<&'static [u8]>
+    ensures help { word.now ≡ codes "--help" → option_map (λ page. page.now) result ≡ Some HELP_PAGE.now }
+    ensures version { word.now ≡ codes "--version" → option_map (λ page. page.now) result ≡ Some version_text }
+    ensures other { (word.now ≡ codes "--help" → ⊥) → (word.now ≡ codes "--version" → ⊥) → result ≡ None }
+{
+    match word {
+        "--help" => Some(help_page()),
+        "--version" => Some(version_line()),
+        _ => None,
+    }
 }
 
 const USAGE: &str =

@@ -1,5 +1,5 @@
 //! What the program says of itself.
-use command_line::{help_page, usage_line, version_line};
+use command_line::{help_page, page_asked_for, usage_line, version_line};
 use std::str::from_utf8;
 
 /// Each option with its range and default, and each exit status, as the help page has them.
@@ -53,7 +53,15 @@ fn pages_are_whole() -> bool {
         && usage_line().ends_with(b" [--rows N]\n")
 }
 
+fn pages_are_asked_for() -> bool {
+    page_asked_for(&["--help"]) == Some(help_page())
+        && page_asked_for(&["--version"]) == Some(version_line())
+        && page_asked_for(&["--help", "--version"]).is_none()
+        && page_asked_for(&["--io"]).is_none()
+        && page_asked_for(&[]).is_none()
+}
+
 #[test]
 fn pages_have_each_option_and_each_status(rt: HostRuntime) {
-    assert!(rt; pages_are_whole());
+    assert!(rt; pages_are_whole() && pages_are_asked_for());
 }
