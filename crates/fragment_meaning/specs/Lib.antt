@@ -1,0 +1,4 @@
+pub mod ScanColumns
+pub mod ScanOutcome
+pub mod PlanOutcomes
+pub mod Laws
