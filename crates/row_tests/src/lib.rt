@@ -3,3 +3,9 @@
 
 #[cfg(test)]
 mod direct_reads;
+#[cfg(test)]
+mod kept_rows;
+#[cfg(test)]
+mod one_file;
+#[cfg(test)]
+mod walks;
