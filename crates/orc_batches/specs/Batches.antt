@@ -44,7 +44,8 @@ round_of (p ∷ plans) = batch_streams p ++ round_of plans
 -- The rows of each column go on with those of the batch.
 pub data EachGoesOn : List ReaderOf → List ReaderOf → List Streams → List Streams → Batch → Type 0 where
   none : EachGoesOn [] [] [] [] []
-  next : {old new : ReaderOf} {olds news : List ReaderOf} {before after : Streams} {befores afters : List Streams} {rows : List Value} {batch : Batch}
+  next : {old new : ReaderOf} {olds news : List ReaderOf} {before after : Streams} {befores afters : List Streams}
+      {rows : List Value} {batch : Batch}
       → RowsGoOn old new before after rows → EachGoesOn olds news befores afters batch
       → EachGoesOn (old ∷ olds) (new ∷ news) (before ∷ befores) (after ∷ afters) (rows ∷ batch)
 
