@@ -1,5 +1,5 @@
 -- A walk from victim to victim ends.
-use Rattle.std.proofs.Common.{◌≡◌, ℕ, zero, suc, ◌<◌, ◌≤◌, inl, inr, Bool, true, false, List, length, slice_set, slice_index_or, Option, Some, None, refl, sym, ap, ◌∙◌, arith}
+use Rattle.std.proofs.Common.{◌≡◌, ℕ, zero, suc, ◌+◌, ◌<◌, ◌≤◌, inl, inr, Bool, true, false, List, length, slice_set, slice_index_or, Option, Some, None, refl, sym, ap, ◌∙◌, arith}
 use Rattle.std.proofs.Common.{Ordering, Less, Equal, Greater}
 use Rattle.std.specs.Ordering.{is_lt}
 use Rattle.std.proofs.lemmas.Bool.{false≢true, cases_eq}
@@ -46,9 +46,9 @@ module _ (entries : List (Option Entry)) (after : Option Rank) (r : Rank) (low :
         | inr earlier ↦ omega (arith, fewer n h (omega (arith, below, earlier)) at, kept_lower after r (rank_at entries n) low)
       ]
 
-pub walk_falls : (entries : List (Option Entry)) (n : ℕ) (after : Option Rank) (r : Rank) → IsLeast (Among 0 n) entries after (Some r) →
-    above_count entries (Some r) n < above_count entries after n
-walk_falls entries n after r found = fewer entries after r found.above n r.header (omega (arith, found.among.1)) found.entry
+pub walk_falls : (first count n : ℕ) (entries : List (Option Entry)) (after : Option Rank) (r : Rank) → first + count ≤ n →
+    IsLeast (Among first count) entries after (Some r) → above_count entries (Some r) n < above_count entries after n
+walk_falls first count n entries after r most found = fewer entries after r found.above n r.header (omega (arith, found.among.1, most)) found.entry
 
 -- to forget an entry makes it no longer
 forgotten_at : (entries : List (Option Entry)) (after : Option Rank) (h k : ℕ) → h < length entries →

@@ -1,5 +1,5 @@
 -- Laws of ranks, victims and entries, for those who walk from victim to victim.
-use Rattle.std.specs.Prelude.{◌≡◌, ◌≢◌, ℕ, ◌<◌, ◌≤◌, true, false, List, length, slice_set, Option, Some, None}
+use Rattle.std.specs.Prelude.{◌≡◌, ◌≢◌, ℕ, ◌+◌, ◌<◌, ◌≤◌, true, false, List, length, slice_set, Option, Some, None}
 use Rattle.std.specs.Cmp.{IsTotalOrder}
 use Rattle.std.specs.Ordering.{is_eq}
 use Rattle.lrfu_policy.specs.declared.entry.Entry.{Entry}
@@ -26,11 +26,11 @@ NoneBetween =
     (h : ℕ) (q : Rank) → Among first count h → h ≢ r.header → rank_at entries h ≡ Some q →
     is_above (Some r) q ≡ false → is_above after q ≡ false
 
--- each victim leaves fewer ranks above it
+-- each victim of a range leaves fewer ranks above it
 abbrev pub VictimsRunOut : Type 0
 VictimsRunOut =
-    (entries : List (Option Entry)) (n : ℕ) (after : Option Rank) (r : Rank) →
-    IsLeast (Among 0 n) entries after (Some r) → above_count entries (Some r) n < above_count entries after n
+    (first count n : ℕ) (entries : List (Option Entry)) (after : Option Rank) (r : Rank) → first + count ≤ n →
+    IsLeast (Among first count) entries after (Some r) → above_count entries (Some r) n < above_count entries after n
 
 -- an entry that is forgotten leaves no more ranks above
 abbrev pub ForgettingAddsNone : Type 0
