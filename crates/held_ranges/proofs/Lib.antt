@@ -1,0 +1,4 @@
+pub mod Holding
+pub mod Grips
+pub mod Gets
+pub mod Rooms

@@ -1,0 +1,12 @@
+//! Ranges that are got through the cache and held, each for a slot, until they are let go.
+#![tactic(auto)]
+
+mod desk;
+mod getting;
+mod held;
+mod leaving;
+mod swapping;
+
+pub use desk::Desk;
+pub use held::{Held, are_same};
+pub use swapping::{let_go_all, swap};
