@@ -7,9 +7,9 @@ ghost use Rattle.fragment_plan.specs.Bounds.{sources_of};
 ghost use Rattle.std.specs.Vec.{vec_capacity};
 ghost use Rattle.board_history.specs.Order.{is_finishable, place_of, ended_in};
 ghost use Rattle.board_history.specs.States.{start_of, replay};
-ghost use Rattle.board_history.specs.Legal.{Legal, Fits, IsCurrent, IsLastBlockedOf};
+ghost use Rattle.board_history.specs.Legal.{Legal, Fits, IsCurrent, IsLastBlockedOf, waiting};
 ghost use Rattle.board_history.specs.Victims.{later_of, last_of, Within};
-ghost use Rattle.board_history.specs.Histories.{no_history, after_event, after_both};
+ghost use Rattle.board_history.specs.Histories.{no_history, after_event, after_both, IsSound};
 ghost use Rattle.board_history.specs.declared.event.BoardEvent.TheVariants as event;
 ghost use Rattle.board_history.specs.declared.status.FragmentStatus.TheVariants as status;
 
@@ -154,6 +154,24 @@ impl History {
         ensures replayed { self.now.state ≡ replay (start_of self.now.plan self.now.executors) self.now.events }
     {
         self.events.as_slice()
+    }
+
+    /// How many fragments may wait; no more do.
+    pub fn room(&self) -> u32
+        ensures room { result ≡ self.now.room }
+        ensures few { waiting self.now.state.statuses ≤ self.now.room }
+    {
+        let _ = &self.events;
+        self.room
+    }
+
+    /// The parts of the state agree: they are as long as the plan's fragments and the executors are many, and an attempt that
+    /// runs is its fragment's current one, and its executor's. It does nothing.
+    pub fn is_sound(&self)
+        ensures sound { IsSound (length self.now.plan) self.now.executors self.now.room self.now.state }
+        ensures fragments { length self.now.plan < 2 ^ 32 }
+    {
+        let _ = &self.events;
     }
 
     /// Where a fragment is.
