@@ -1,5 +1,5 @@
 -- A history with its waiting, call by call.
-use Rattle.std.proofs.Common.{◌≡◌, ◌≢◌, ℕ, zero, suc, ◌+◌, ◌-◌, ◌<◌, ◌≤◌, ◌⊎◌, inl, inr, ⊎_elim, Bool, true, false, not, nat_eq, List, [], ◌∷◌, ◌++◌, length, take, drop, get_or, Option, Some, None, slice_get, slice_set, refl, sym, ap, ◌∙◌, subst, arith}
+use Rattle.std.proofs.Common.{◌≡◌, ◌≢◌, ℕ, zero, suc, ◌+◌, ◌-◌, ◌<◌, ◌≤◌, ◌⊎◌, inl, inr, ⊎_elim, Bool, true, false, not, nat_eq, List, [], ◌∷◌, ◌++◌, length, take, drop, replicate, get_or, Option, Some, None, slice_get, slice_set, refl, sym, ap, ◌∙◌, subst, arith}
 use Rattle.std.proofs.lemmas.Option.{slice_get_within}
 use Rattle.fragment_plan.specs.declared.fragment.Fragment.{Fragment}
 use Rattle.board_history.specs.declared.attempt.Attempt.{Attempt}
@@ -224,3 +224,10 @@ ordered_front ps front x o split = subst Ordered (no_more front) (less-ordered f
   no_more : (front : List Place) → front ++ [] ≡ front
   no_more [] = refl
   no_more (y ∷ front) = ap (λ l. y ∷ l) (no_more front)
+
+replicate_suc : {A : Type 0} (n : ℕ) (x : A) → replicate n x ++ x ∷ [] ≡ replicate (suc n) x
+replicate_suc zero x = refl
+replicate_suc (suc n) x = ap (λ l. x ∷ l) (replicate_suc n x)
+
+pub replicate_more : {A : Type 0} (n : ℕ) (x : A) → replicate n x ++ x ∷ [] ≡ replicate (n + 1) x
+replicate_more n x = replicate_suc n x ∙ ap (λ k. replicate k x) (let e : suc n ≡ n + 1 = omega arith in e)

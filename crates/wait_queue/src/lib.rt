@@ -2,11 +2,13 @@
 #![tactic(auto)]
 
 mod answer;
+mod board;
 mod calls;
 mod ends;
 mod order;
 mod schedule;
 
 pub use answer::{Finish, Offer, Preempt};
+pub use board::Board;
 pub use board_history::{Attempt, BoardEvent, BoardTotals, FragmentStatus};
 pub use schedule::Schedule;
