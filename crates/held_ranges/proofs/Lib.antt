@@ -2,3 +2,4 @@ pub mod Holding
 pub mod Grips
 pub mod Gets
 pub mod Rooms
+pub mod Counting

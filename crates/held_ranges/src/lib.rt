@@ -4,6 +4,7 @@
 mod desk;
 mod getting;
 mod held;
+pub mod laws;
 mod leaving;
 mod swapping;
 
