@@ -1,5 +1,5 @@
 -- A history with its waiting, call by call.
-use Rattle.std.proofs.Common.{◌≡◌, ◌≢◌, ℕ, zero, suc, ◌+◌, ◌-◌, ◌<◌, ◌≤◌, ◌⊎◌, inl, inr, ⊎_elim, Bool, true, false, not, nat_eq, List, [], ◌∷◌, ◌++◌, length, take, drop, replicate, get_or, Option, Some, None, slice_get, slice_set, refl, sym, ap, ◌∙◌, subst, arith}
+use Rattle.std.proofs.Common.{◌≡◌, ◌≢◌, ℕ, zero, suc, ◌+◌, ◌<◌, ◌⊎◌, inl, inr, ⊎_elim, Bool, true, false, not, nat_eq, List, [], ◌∷◌, ◌++◌, length, take, drop, replicate, get_or, Some, slice_get, slice_set, refl, sym, ap, ◌∙◌, subst, arith}
 use Rattle.std.proofs.lemmas.Option.{slice_get_within}
 use Rattle.fragment_plan.specs.declared.fragment.Fragment.{Fragment}
 use Rattle.board_history.specs.declared.attempt.Attempt.{Attempt}
@@ -8,14 +8,14 @@ use Rattle.board_history.specs.declared.event.BoardEvent.TheVariants as event
 use Rattle.board_history.specs.declared.status.FragmentStatus.{FragmentStatus}
 use Rattle.board_history.specs.declared.status.FragmentStatus.TheVariants.{Absent, Waiting, Running, Finished, GaveUp}
 use Rattle.board_history.specs.Order.{is_before, before_by, place_of, is_finishable}
-use Rattle.board_history.specs.Legal.{waiting, Precedes, IsFirstWaiting, IsLastWaiting, MakesRoom, HasNoRoom, MayPreempt, IsLastBlocked}
+use Rattle.board_history.specs.Legal.{waiting, IsFirstWaiting, IsLastWaiting}
 use Rattle.board_history.specs.Laws.{NoneBeforeItself, BeforeGoesOn, OneIsBefore}
 use Rattle.board_history.specs.Histories.{HistoryOf, IsSound, after_event, after_both}
 use Rattle.wait_queue.specs.Queue.{In, Ordered, placed_among, IsQueue, IsQueueTo}
 use Rattle.wait_queue.specs.Schedule.{IsSchedule, Presses}
 use Rattle.std.proofs.lemmas.Bool.Decides.{nat_tests}
 use Rattle.board_history.specs.Legal.{waits}
-use Rattle.wait_queue.proofs.Queues.{placed-cases, placed-new, placed-old, length-placed, ordered-placed, place_stays, queue_offered, queue_left, queue_kept, queue_first, queue_last, less-ordered, not_all_wait}
+use Rattle.wait_queue.proofs.Queues.{placed-cases, placed-new, placed-old, length-placed, ordered-placed, place_stays, queue_offered, queue_left, queue_kept, queue_first, queue_last, less-ordered}
 
 pub split_last : (xs : List Place) (m : ℕ) (x : Place) → m + 1 ≡ length xs → x ≡ get_or xs m x → xs ≡ take m xs ++ x ∷ []
 split_last [] m x e r = absurd (omega (arith, e))

@@ -33,3 +33,8 @@ IsLegal h = Legal h.plan h.room (start_of h.plan h.executors) h.events
 -- the state is what the events come to
 abbrev pub IsReplayed : HistoryOf → Type 0
 IsReplayed h = h.state ≡ replay (start_of h.plan h.executors) h.events
+
+-- the result in a fragment's place
+abbrev pub result_in : {K : Type 0} → Option (Option K) → Option K
+result_in None = None
+result_in (Some result) = result

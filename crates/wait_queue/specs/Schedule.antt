@@ -1,5 +1,5 @@
 -- What the calls of a board do (this project's own).
-use Rattle.std.specs.Prelude.{◌≡◌, ◌≢◌, ℕ, ◌<◌, ◌≤◌, true, false, List, [], ◌∷◌, length, Option, Some, None, slice_get}
+use Rattle.std.specs.Prelude.{◌≡◌, ◌≢◌, ℕ, ◌<◌, ◌≤◌, true, false, List, length, Option, Some, None, slice_get}
 use Rattle.board_history.specs.declared.attempt.Attempt.{Attempt}
 use Rattle.board_history.specs.declared.place.Place.{Place}
 use Rattle.board_history.specs.declared.event.BoardEvent.{BoardEvent}

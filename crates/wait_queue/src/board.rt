@@ -1,11 +1,12 @@
 //! The board with its results.
 
 ghost use Rattle.std.specs.Prelude.{◌≡◌, ◌<◌, ◌≤◌, ◌↔◌, Some, None, IfOk, OnErr, IsTrue, length, slice_get, replicate};
+ghost use Rattle.std.specs.Option.{option_copied};
 ghost use Rattle.board_history.specs.Totals.{totals_of};
 ghost use Rattle.board_history.specs.declared.event.BoardEvent.TheVariants as event;
 ghost use Rattle.board_history.specs.declared.status.FragmentStatus.TheVariants as status;
 ghost use Rattle.wait_queue.specs.Schedule.{Offers, Starts, Reviews, Ends, Kills};
-ghost use Rattle.wait_queue.specs.Boards.{no_board, Finishes, IsLegal, IsReplayed};
+ghost use Rattle.wait_queue.specs.Boards.{no_board, Finishes, IsLegal, IsReplayed, result_in};
 
 use crate::answer::{Finish, Offer, Preempt};
 use crate::schedule::Schedule;
@@ -158,5 +159,13 @@ impl<K: Drop> Board<K> {
         ensures { result ≡ totals_of self.now.history.events }
     {
         self.schedule.totals()
+    }
+
+    /// The result of a fragment, lent, where one was kept.
+    pub fn result(&self, fragment: u32) -> Option<&K>
+        requires { fragment < length self.now.history.plan }
+        ensures { option_copied result ≡ result_in (slice_get self.now.results fragment) }
+    {
+        self.results[fragment as usize].as_ref()
     }
 }

@@ -1,4 +1,4 @@
-use Rattle.std.proofs.Common.{arith, ◌≡◌, sym, ap, ◌∙◌, Some, refl}
+use Rattle.std.proofs.Common.{arith, ap, ◌∙◌, Some, refl}
 use Rattle.wait_queue.proofs.Steps.{queue_added, queue_skipped}
 use Rattle.wait_queue.proofs.calls.add.Goals as goal
 

@@ -1,4 +1,4 @@
-use Rattle.std.proofs.Common.{arith, ap, ◌∙◌, length}
+use Rattle.std.proofs.Common.{arith, ap, length}
 use Rattle.wait_queue.proofs.Steps.{queue_whole}
 use Rattle.wait_queue.proofs.calls.renew.Goals as goal
 

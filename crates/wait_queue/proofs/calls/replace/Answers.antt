@@ -1,7 +1,6 @@
-use Rattle.std.proofs.Common.{◌≡◌, ◌+◌, ◌-◌, ◌++◌, ◌∷◌, [], true, false, refl, sym, ap, ◌∙◌, subst, arith, length, take}
+use Rattle.std.proofs.Common.{◌≡◌, ◌+◌, ◌-◌, true, false, refl, sym, ap, ◌∙◌, subst, arith, length, take}
 use Rattle.wait_queue.specs.Queue.{Ordered, placed_among}
-use Rattle.wait_queue.proofs.Queues.{less-ordered}
-use Rattle.wait_queue.proofs.Steps.{split_last, last_there, precedes_by, schedule_replaced, queue_split, ordered_front}
+use Rattle.wait_queue.proofs.Steps.{split_last, last_there, precedes_by, schedule_replaced, ordered_front}
 use Rattle.wait_queue.proofs.calls.replace.Goals as goal
 
 pub evicted-requires : goal.evicted-requires

@@ -1,4 +1,4 @@
-use Rattle.std.proofs.Common.{arith, ◌≡◌, ◌<◌, length, drop, refl}
+use Rattle.std.proofs.Common.{arith, ◌<◌, length, drop, refl}
 use Rattle.wait_queue.proofs.Steps.{some_there, split_first, first_there, none_finishes, schedule_preempted}
 use Rattle.wait_queue.proofs.calls.review.Goals as goal
 

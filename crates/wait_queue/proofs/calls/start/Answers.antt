@@ -1,5 +1,4 @@
-use Rattle.std.proofs.Common.{arith, ◌≡◌, ◌<◌, length, drop, ◌∷◌, ap, ◌∙◌, sym, refl}
-use Rattle.board_history.specs.declared.place.Place.{Place}
+use Rattle.std.proofs.Common.{arith, ◌<◌, length, drop, ◌∷◌, ap, ◌∙◌, sym, refl}
 use Rattle.board_history.specs.declared.status.FragmentStatus.TheVariants.{Waiting}
 use Rattle.wait_queue.proofs.Steps.{some_there, split_first, first_there, within_plan, schedule_started}
 use Rattle.wait_queue.proofs.calls.start.Goals as goal
