@@ -1,0 +1,6 @@
+mod ColumnRows
+mod EachColumn
+mod ManyRows
+mod RunLengths
+mod SpelledBytes
+mod StripeRows
