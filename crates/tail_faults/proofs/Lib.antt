@@ -1,0 +1,2 @@
+mod FaultsOfBytes
+mod Refusals
