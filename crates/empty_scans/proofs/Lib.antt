@@ -1,0 +1,2 @@
+mod EmptyScans
+mod NamedColumns
