@@ -1,1 +1,2 @@
 pub mod CacheTotals
+pub mod Text
