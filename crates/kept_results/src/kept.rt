@@ -54,4 +54,12 @@ impl<W: World> Kept<W> {
     {
         &self.answer
     }
+
+    /// The answer.
+    pub fn into_answer(self) -> Answer
+        ensures same { result ≡ self.answer }
+        ensures kept { IsKept W.files self.plan self.fragment result }
+    {
+        self.answer
+    }
 }

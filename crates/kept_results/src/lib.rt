@@ -2,5 +2,8 @@
 #![tactic(auto)]
 
 mod kept;
+pub mod laws;
+mod shape;
 
 pub use kept::Kept;
+pub use shape::has_shape;
