@@ -1,7 +1,7 @@
 -- Totals of a history, event by event.
 use Rattle.std.proofs.Common.{◌≡◌, ◌+◌, ◌≤◌, List, length}
 use Rattle.board_history.specs.declared.event.BoardEvent.{BoardEvent}
-use Rattle.board_history.specs.declared.totals.BoardTotals.{BoardTotals}
+use Rattle.ledgers.specs.declared.board_totals.BoardTotals.{BoardTotals}
 use Rattle.board_history.specs.Totals.{total, offers, starts, kills, finishes, give_ups}
 
 -- what was counted of the events before `rest`, of all events
@@ -16,3 +16,4 @@ pub record CountedTo (t : BoardTotals) (rest all : List BoardEvent) : Type 0 whe
   pub few_killed : t.killed + length rest ≤ length all
   pub few_finished : t.finished + length rest ≤ length all
   pub few_gave_up : t.gave_up + length rest ≤ length all
+  pub no_inline : t.inline_runs ≡ 0

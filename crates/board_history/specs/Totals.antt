@@ -2,7 +2,7 @@
 use Rattle.std.specs.Prelude.{ℕ, ◌+◌, ◌<◌, List, [], ◌∷◌}
 use Rattle.board_history.specs.declared.event.BoardEvent.{BoardEvent}
 use Rattle.board_history.specs.declared.event.BoardEvent.TheVariants as event
-use Rattle.board_history.specs.declared.totals.BoardTotals.{BoardTotals}
+use Rattle.ledgers.specs.declared.board_totals.BoardTotals.{BoardTotals}
 
 -- how many events are of a kind, which gives 1 of it and 0 of another
 abbrev pub total : (BoardEvent → ℕ) → List BoardEvent → ℕ
@@ -54,7 +54,7 @@ give_ups (event.Preempted victim made_for) = 0
 give_ups (event.Finished a) = 0
 give_ups (event.GaveUp a) = 1
 
--- how often each thing happened
+-- how often each thing happened; on a board no fragment is run inline
 abbrev pub totals_of : List BoardEvent → BoardTotals
 totals_of es = record {
   offered = total offers es;
@@ -62,6 +62,7 @@ totals_of es = record {
   killed = total kills es;
   finished = total finishes es;
   gave_up = total give_ups es;
+  inline_runs = 0;
 }
 
 -- with one event more
@@ -72,9 +73,10 @@ counted t e = record {
   killed = t.killed + kills e;
   finished = t.finished + finishes e;
   gave_up = t.gave_up + give_ups e;
+  inline_runs = t.inline_runs;
 }
 
--- each of them is below a number
+-- each count of a history is below a number
 pub record AllBelow (n : ℕ) (t : BoardTotals) : Type 0 where
   pub offered : t.offered < n
   pub started : t.started < n

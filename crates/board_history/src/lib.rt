@@ -14,4 +14,4 @@ pub use event::BoardEvent;
 pub use history::History;
 pub use place::Place;
 pub use status::FragmentStatus;
-pub use totals::{BoardTotals, totals_of};
+pub use totals::totals_of;

@@ -3,3 +3,11 @@
 
 #[cfg(test)]
 mod boards;
+#[cfg(test)]
+mod moves;
+#[cfg(test)]
+mod random;
+#[cfg(test)]
+mod replays;
+#[cfg(test)]
+mod wanted;

@@ -1,3 +1,1 @@
-pub mod Places
-pub mod Queues
-pub mod Steps
+pub mod Keeping

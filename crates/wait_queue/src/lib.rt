@@ -1,14 +1,10 @@
-//! The board of a plan's fragments: which wait, in their order, and which run, finished or gave up.
+//! The board of a plan's fragments: which wait, in their order, which run, finished or gave up, and the results of those that finished.
 #![tactic(auto)]
 
-mod answer;
 mod board;
-mod calls;
-mod ends;
-mod order;
-mod schedule;
 
-pub use answer::{Finish, Offer, Preempt};
 pub use board::Board;
-pub use board_history::{Attempt, BoardEvent, BoardTotals, FragmentStatus};
-pub use schedule::Schedule;
+pub use board_history::{Attempt, BoardEvent, FragmentStatus};
+pub use board_schedule::{Finish, Offer, Preempt};
+pub use kept_results::Kept;
+pub use ledgers::BoardTotals;
