@@ -1,0 +1,4 @@
+pub mod Rows
+pub mod Orders
+pub mod Joining
+pub mod Named
