@@ -1,0 +1,4 @@
+pub mod Forms
+pub mod Folded
+pub mod Parts
+pub mod Finding
