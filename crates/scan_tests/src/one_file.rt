@@ -1,0 +1,83 @@
+//! A store of one file that notes its reads, and a scan of that file.
+ghost use Rattle.std.specs.Prelude.{◌≡◌, ◌≤◌, ◌+◌, ℕ, List, [], ◌∷◌, length, Option, None, OnOk, OnErr, slice_range};
+ghost use Rattle.outside.specs.Cause.{HasCause, last_count};
+ghost use Rattle.outside.specs.Files.{HasBytes, IsFile, range_of};
+ghost use Rattle.outside.specs.Told.{Extended};
+ghost use Rattle.outside.specs.declared.file_ref.FileRange.{FileRange};
+
+use fragment_outcome::write_result;
+use fragment_plan::{Work, read_plan};
+use fragment_scan::scan;
+use outside::{Failed, FileRef, MemorySink, RealWorld, Store};
+use std::alloc::Global;
+
+/// The bytes of the file `t.orc`, the place and the length of each read of them that was made, and how many are made before one fails.
+#[derive(Drop)]
+struct OneFile<'a> {
+    bytes: &'a [u8],
+    reads: Vec<(u64, usize)>,
+    most: usize,
+}
+
+impl<'a> Store<RealWorld> for OneFile<'a> {
+    ghost reads = { λ _. None };
+
+    ghost fault_count = { λ _. last_count };
+
+    fn find(&mut self, name: &str) -> Result<Option<FileRef>, Failed> {
+        if name != "t.orc" {
+            return Ok(None);
+        }
+        Ok(Some(FileRef {
+            number: 0,
+            len: self.bytes.len() as u64,
+        }))
+    }
+
+    fn read_at(&mut self, file: FileRef, at: u64, into: &mut [u8]) -> Result<(), Failed>
+        requires in_range { at + length into.old ≤ file.len }
+        requires is_file { IsFile None file }
+        ensures bytes { OnOk result ((bytes : List ℕ) → HasBytes None file bytes
+            → into.new ≡ slice_range bytes at (at + length into.new)) }
+        ensures reads { OnOk result (Extended {A = FileRange} None None (range_of file at (length into.new) ∷ [])) }
+        ensures refused { OnErr result (◌≡◌ {A = Option (List FileRange)} None None) }
+        ensures cause { HasCause last_count last_count result }
+    {
+        if self.reads.len() == self.most {
+            return Err(Failed);
+        }
+        self.reads.push((at, into.len())).map_err(|_| Failed)?;
+        let start = at as usize;
+        let end = start.checked_add(into.len()).ok_or(Failed)?;
+        into.copy_from_slice(self.bytes.get(start..end).ok_or(Failed)?);
+        Ok(())
+    }
+
+    fn faults(&self) -> u64 {
+        u64::MAX
+    }
+}
+
+/// What is printed of the first fragment of a plan, which scans the file of these digits, and the reads that it made, of which so many
+/// were made before one failed.
+pub fn scanned(
+    alloc: Global,
+    digits: &str,
+    plan: &str,
+    most: usize,
+) -> Option<(MemorySink, Vec<(u64, usize)>)> {
+    let bytes = hex::decode(alloc, digits).ok()?;
+    let plan = read_plan(alloc, plan.as_bytes()).ok()?;
+    let Work::Scan(_) = &plan.fragments().first()?.work else {
+        return None;
+    };
+    let mut store = OneFile {
+        bytes: bytes.as_slice(),
+        reads: Vec::new(alloc),
+        most,
+    };
+    let outcome = scan::<RealWorld, _>(alloc, &mut store, &plan, 0).ok()?;
+    let mut sink = MemorySink::new(alloc, Vec::new(alloc), 400).ok()?;
+    write_result(&plan, 0, &outcome, &mut sink).ok()?;
+    Some((sink, store.reads))
+}
