@@ -1,13 +1,12 @@
 //! A plan, spelled out field by field.
 use fragment_plan::{Check, FoldKind, Fragment, Op, Plan, Scan, Test, Work};
 use orc_values::Value;
-use outside::Name;
 use std::alloc::{AllocError, Global};
 
-/// Each fragment in brackets: its name, what it does, its file, columns and tests, and the fragments behind which
-/// it is to be done.
+/// Behind the word `good` each fragment in brackets: its name, what it does, its file, columns and tests, and the fragments behind
+/// which it is to be done.
 pub fn described(alloc: Global, plan: &Plan) -> Result<String, AllocError> {
-    let mut out = String::new(alloc);
+    let mut out = String::from_str(alloc, "good")?;
     for fragment in plan.fragments() {
         add_fragment(alloc, &mut out, fragment)?;
     }
@@ -29,21 +28,16 @@ fn add_scan(alloc: Global, out: &mut String, scan: &Scan) -> Result<(), AllocErr
     match &scan.fold {
         FoldKind::Rows(columns) => add_numbers(alloc, out, " rows", columns.as_slice())?,
         FoldKind::Count => out.push_str(" count")?,
-        FoldKind::Sum(column) => add_number(alloc, out, " sum ", *column as i64)?,
-        FoldKind::Group(column) => add_number(alloc, out, " group ", *column as i64)?,
+        FoldKind::Sum(column) => add_number(alloc, out, " sum ", i64::from(*column))?,
+        FoldKind::Group(column) => add_number(alloc, out, " group ", i64::from(*column))?,
     }
     out.push_str(" from ")?;
     out.push_str(scan.file.as_str())?;
-    add_names(out, scan.columns.as_slice())?;
-    add_tests(alloc, out, scan.tests.as_slice())
-}
-
-fn add_names(out: &mut String, names: &[Name]) -> Result<(), AllocError> {
-    for name in names {
+    for name in scan.columns.as_slice() {
         out.push_str(" ")?;
         out.push_str(name.as_str())?;
     }
-    Ok(())
+    add_tests(alloc, out, scan.tests.as_slice())
 }
 
 fn add_numbers(
@@ -56,7 +50,7 @@ fn add_numbers(
         out.push_str(word)?;
     }
     for number in numbers {
-        add_number(alloc, out, " ", *number as i64)?;
+        add_number(alloc, out, " ", i64::from(*number))?;
     }
     Ok(())
 }
@@ -69,7 +63,7 @@ fn add_number(alloc: Global, out: &mut String, word: &str, number: i64) -> Resul
 
 fn add_tests(alloc: Global, out: &mut String, tests: &[Test]) -> Result<(), AllocError> {
     for test in tests {
-        add_number(alloc, out, " ? ", test.column as i64)?;
+        add_number(alloc, out, " ? ", i64::from(test.column))?;
         match &test.check {
             Check::Compare { op, literal } => add_compared(alloc, out, *op, literal)?,
             Check::IsNull => out.push_str(" null")?,
@@ -91,7 +85,10 @@ fn add_compared(
         Value::Bool(true) => out.push_str("yes"),
         Value::Bool(false) => out.push_str("no"),
         Value::Int(number) => add_number(alloc, out, "", *number),
-        Value::Text(bytes) => add_text(out, bytes.as_slice()),
+        Value::Text(bytes) => {
+            out.push_str("text ")?;
+            out.push_str(str::from_utf8(bytes.as_slice()).unwrap_or("?"))
+        }
     }
 }
 
@@ -104,12 +101,4 @@ fn op_words(op: Op) -> &'static str {
         Op::Greater => " gt ",
         Op::GreaterOrEqual => " ge ",
     }
-}
-
-fn add_text(out: &mut String, bytes: &[u8]) -> Result<(), AllocError> {
-    out.push_str("text ")?;
-    for byte in bytes {
-        out.push(*byte as char)?;
-    }
-    Ok(())
 }

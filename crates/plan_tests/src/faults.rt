@@ -1,6 +1,5 @@
 //! Plans that are refused, each with the line and the words of its first fault, by the rules of the language.
-use crate::texts::{fault_of, plan_bytes};
-use std::alloc::Global;
+use crate::texts::all_hold;
 
 /// Lines, words and their places.
 const WORDS: &str = "\
@@ -102,35 +101,9 @@ const EARLIER: &str = "\
 1 bad name : x rows a,b,c,d,e,f,g,h,i,j,k,l,m,n,o,p,q,$ from t
 1 bad name : x rows a,b,c,d,e,f,g,h,i,j,k,l,m,n,o,p from t where $ ? 1";
 
-/// Whether a row's plan has the row's first fault.
-fn holds(alloc: Global, row: &str) -> Option<bool> {
-    let (fault, plan) = row.split_once(" : ")?;
-    let (line, words) = fault.split_once(' ')?;
-    let bytes = plan_bytes(alloc, plan)?;
-    let (found_line, found_words) = fault_of(alloc, bytes.as_slice())?;
-    Some(line.parse::<u32>().ok()? == found_line && words == found_words)
-}
-
-fn all_hold(alloc: Global, table: &str) -> bool {
-    for row in table.lines() {
-        if holds(alloc, row) != Some(true) {
-            return false;
-        }
-    }
-    true
-}
-
 #[test]
-fn words_out_of_place(rt: HostRuntime) {
+fn the_first_fault_is_answered(rt: HostRuntime) {
     assert!(rt; all_hold(rt.alloc(), WORDS));
-}
-
-#[test]
-fn broken_literals(rt: HostRuntime) {
     assert!(rt; all_hold(rt.alloc(), LITERALS));
-}
-
-#[test]
-fn earlier_lines(rt: HostRuntime) {
     assert!(rt; all_hold(rt.alloc(), EARLIER));
 }

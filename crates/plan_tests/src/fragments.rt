@@ -1,112 +1,111 @@
-//! Plans that are read, each with its fragments spelled out, by the rules of the language.
-use crate::described::described;
-use crate::texts::plan_bytes;
-use fragment_plan::{Plan, named_by, read_plan, width};
+//! Plans that are read, each with its fragments spelled out, by the rules of the language, and the limits of a plan.
+use crate::texts::all_hold;
+use fragment_plan::{named_by, read_plan, width};
 use std::alloc::Global;
 
-/// A plan, and its fragments.
+/// The fragments of plans, or the first fault, and the plan.
 const PLANS: &str = "\
-# nothing||@ : none
-| : none
-s sum x from t.orc : [s sum 0 from t.orc x]
-s sum x from t.orc@| : [s sum 0 from t.orc x]
-^ s^sum^^x  from t.orc ^|# end : [s sum 0 from t.orc x]
-n count from t : [n count from t]
-a group x from t : [a group 0 from t x]
-a rows from from t : [a rows 0 from t from]
-a rows x,y,x from t where z is null and y = 5 : [a rows 0 1 0 from t x y z ? 2 null ? 1 eq 5]
-a sum x from t where x is not null and y is null : [a sum 0 from t x y ? 0 not null ? 1 null]
-a count from t where x = -0 and x = 0 and x = -7 : [a count from t x ? 0 eq 0 ? 0 eq 0 ? 0 eq -7]
-a count from t where x >= -9223372036854775808 : [a count from t x ? 0 ge -9223372036854775808]
-a count from t where x <= 9223372036854775807 : [a count from t x ? 0 le 9223372036854775807]
-a count from t where x = true and y != false : [a count from t x y ? 0 eq yes ? 1 ne no]
-a count from t where x < 1 and y > 2 : [a count from t x y ? 0 lt 1 ? 1 gt 2]
-a count from t where x = 'it''s' and y != '' : [a count from t x y ? 0 eq text it's ? 1 ne text ]
-a count from t where x = 'a' and y = 'b' : [a count from t x y ? 0 eq text a ? 1 eq text b]
-a count from t where x = '''' : [a count from t x ? 0 eq text ']
-a count from t where x > 'a, b  c# true'^ : [a count from t x ? 0 gt text a, b  c# true]
-where count from from|b count from after after where : [where count from from][b count from after after 0]
-a count from t|m merge a,a : [a count from t][m merge 0 0]
-a rows x,x from t|b rows y,z from u|m merge b,a after a : [a rows 0 0 from t x][b rows 0 1 from u y z][m merge 1 0 after 0]
-a sum x from t|b merge a|c sum y from t|m merge b,c after c,a : \
-[a sum 0 from t x][b merge 0][c sum 0 from t y][m merge 1 2 after 2 0]
-a count from t where x = 1 after b : bad
-a count from t|b count from t where x = 1 after a : [a count from t][b count from t x ? 0 eq 1 after 0]";
+good : # nothing||@
+good : |
+good[s sum 0 from t.orc x] : s sum x from t.orc
+good[s sum 0 from t.orc x] : s sum x from t.orc@|
+good[s sum 0 from t.orc x] : ^ s^sum^^x  from t.orc ^|# end
+good[n count from t] : n count from t
+good[a group 0 from t x] : a group x from t
+good[a rows 0 from t from] : a rows from from t
+good[a rows 0 1 0 from t x y z ? 2 null ? 1 eq 5] : a rows x,y,x from t where z is null and y = 5
+good[a sum 0 from t x y ? 0 not null ? 1 null] : a sum x from t where x is not null and y is null
+good[a count from t x ? 0 eq 0 ? 0 eq 0 ? 0 eq -7] : a count from t where x = -0 and x = 0 and x = -7
+good[a count from t x ? 0 ge -9223372036854775808] : a count from t where x >= -9223372036854775808
+good[a count from t x ? 0 le 9223372036854775807] : a count from t where x <= 9223372036854775807
+good[a count from t x y ? 0 eq yes ? 1 ne no] : a count from t where x = true and y != false
+good[a count from t x y ? 0 lt 1 ? 1 gt 2] : a count from t where x < 1 and y > 2
+good[a count from t x y ? 0 eq text it's ? 1 ne text ] : a count from t where x = 'it''s' and y != ''
+good[a count from t x y ? 0 eq text a ? 1 eq text b] : a count from t where x = 'a' and y = 'b'
+good[a count from t x ? 0 eq text '] : a count from t where x = ''''
+good[a count from t x ? 0 gt text a, b  c# true] : a count from t where x > 'a, b  c# true'^
+good[where count from from][b count from after after 0] : where count from from|b count from after after where
+good[a count from t][m merge 0 0] : a count from t|m merge a,a
+good[a rows 0 0 from t x][b rows 0 1 from u y z][m merge 1 0 after 0] : a rows x,x from t|b rows y,z from u|m merge b,a after a
+good[a sum 0 from t x][b merge 0][c sum 0 from t y][m merge 1 2 after 2 0] : a sum x from t|b merge a|c sum y from t|m merge b,c after c,a
+1 unknown fragment : a count from t where x = 1 after b
+good[a count from t][b count from t x ? 0 eq 1 after 0] : a count from t|b count from t where x = 1 after a";
 
-/// Whether a row's plan has the row's fragments; `bad` stands for a plan that is refused.
-fn holds(alloc: Global, row: &str) -> Option<bool> {
-    let (plan, wanted) = row.split_once(" : ")?;
-    let bytes = plan_bytes(alloc, plan)?;
-    let Ok(plan) = read_plan(alloc, bytes.as_slice()) else {
-        return Some(wanted == "bad");
-    };
-    let other = plan.again().ok()?;
-    let text = described(alloc, &other).ok()?;
-    Some(text.as_str() == wanted || text.is_empty() && wanted == "none")
-}
+/// Each limit, and one more: bytes and fragments of a plan, names of a list, columns, tests, bytes of a name; and 1,000 fragments of
+/// which all but the first merge 64 names.
+const SIZES: &str = "\
+good : {16384:################################################################}
+0 too long : {16384:################################################################}#
+good{1000:[f~ count from t]} : {1000:f~ count from t|}
+1001 too many : {1000:f~ count from t|}g what
+1001 bad name : {1000:f~ count from t|}f7 what
+1001 bad name : {1000:f~ count from t|}g$
+good[a count from t][m merge{64: 0}] : a count from t|m merge {63:a,}a
+2 too many : a count from t|m merge {64:a,}a q
+2 unknown fragment : a count from t|m merge {64:a,}z
+2 too many : a count from t|m merge a after {64:a,}a
+good[r rows{64: 0} from t x] : r rows {63:x,}x from t
+1 too many : r rows {64:x,}x from t
+good[a count from t x{15: ? 0 eq 1} ? 0 null] : a count from t where {15:x = 1 and }x is null
+1 too many : a count from t where {16:x = 1 and }x ?
+1 bad name : a count from t where {16:x = 1 and }$ = 1
+good[{64:a} count from t] : {64:a} count from t
+1 bad name : {65:a} count from t
+good[f0 count from t]{999:[f% merge 0 0 0 0 0 0 0 0 0 0 0 0 0 0 0 0 0 0 0 0 0 0 0 0 0 0 0 0 0 0 0 0 \
+~ ~ ~ ~ ~ ~ ~ ~ ~ ~ ~ ~ ~ ~ ~ ~ ~ ~ ~ ~ ~ ~ ~ ~ ~ ~ ~ ~ ~ ~ ~ 0]} : \
+f0 count from t|{999:f% merge f0,f0,f0,f0,f0,f0,f0,f0,f0,f0,f0,f0,f0,f0,f0,f0,f0,f0,f0,f0,f0,f0,f0,f0,f0,f0,f0,f0,f0,f0,f0,f0,\
+f~,f~,f~,f~,f~,f~,f~,f~,f~,f~,f~,f~,f~,f~,f~,f~,f~,f~,f~,f~,f~,f~,f~,f~,f~,f~,f~,f~,f~,f~,f~,f0|}";
 
-fn all_hold(alloc: Global) -> bool {
-    for row in PLANS.lines() {
-        if holds(alloc, row) != Some(true) {
-            return false;
-        }
-    }
-    true
-}
-
-/// A plan from its bytes.
-fn plan_of(alloc: Global, bytes: &[u8]) -> Option<Plan> {
-    read_plan(alloc, bytes).ok()
+#[test]
+fn plans_are_read(rt: HostRuntime) {
+    assert!(rt; all_hold(rt.alloc(), PLANS));
+    assert!(rt; all_hold(rt.alloc(), SIZES));
 }
 
 const WAITING: &[u8] =
     b"a sum x from t.orc\nz sum x from t.orc after a\ny rows x,y,x from t.orc\nm merge z,a after y";
 
-fn widths_are(plan: &Plan) -> bool {
-    if plan.fragments().len() != 4 {
-        return false;
-    }
-    (width(plan, 1), width(plan, 2), width(plan, 3)) == (1, 2, 0)
-}
+/// The width of each fragment of that plan but the first, and places of a fragment with the fragment that it names there.
+const WIDTHS: [u32; 3] = [1, 2, 0];
 
-/// The fragments that a fragment names, up to the first place where there is none.
-fn named(plan: &Plan, fragment: u32) -> (Option<u32>, Option<u32>, Option<u32>, Option<u32>) {
-    if (fragment as usize) >= plan.fragments().len() {
-        return (None, None, None, None);
-    }
-    (
-        named_by(plan, fragment, 0),
-        named_by(plan, fragment, 1),
-        named_by(plan, fragment, 2),
-        named_by(plan, fragment, 3),
-    )
-}
+const NAMED: [(u32, u32, Option<u32>); 12] = [
+    (0, 0, None),
+    (0, 1, None),
+    (0, 2, None),
+    (0, 3, None),
+    (1, 0, Some(0)),
+    (1, 1, None),
+    (1, 2, None),
+    (1, 3, None),
+    (3, 0, Some(1)),
+    (3, 1, Some(0)),
+    (3, 2, Some(2)),
+    (3, 3, None),
+];
 
 fn widths_and_names(alloc: Global) -> Option<bool> {
-    let plan = plan_of(alloc, WAITING)?;
-    Some(
-        widths_are(&plan)
-            && named(&plan, 0) == (None, None, None, None)
-            && named(&plan, 1) == (Some(0), None, None, None)
-            && named(&plan, 3) == (Some(1), Some(0), Some(2), None),
-    )
-}
-
-fn sameness(alloc: Global) -> Option<bool> {
-    let one = plan_of(alloc, b"a count from t where x = 'a'")?;
-    let two = plan_of(alloc, b"#\na  count from t where x = 'a' \n")?;
-    let three = plan_of(alloc, b"a count from t where x = 'b'")?;
-    Some(one.is_same(&two) && !one.is_same(&three))
-}
-
-#[test]
-fn plans_are_read(rt: HostRuntime) {
-    assert!(rt; all_hold(rt.alloc()));
+    let plan = read_plan(alloc, WAITING).ok()?;
+    if plan.fragments().len() != 4 {
+        return None;
+    }
+    for (fragment, place, wanted) in &NAMED {
+        if *fragment > 3 || named_by(&plan, *fragment, *place) != *wanted {
+            return None;
+        }
+    }
+    Some([width(&plan, 1), width(&plan, 2), width(&plan, 3)] == WIDTHS)
 }
 
 #[test]
 fn widths_and_named_fragments(rt: HostRuntime) {
     assert!(rt; widths_and_names(rt.alloc()) == Some(true));
+}
+
+fn sameness(alloc: Global) -> Option<bool> {
+    let one = read_plan(alloc, b"a count from t where x = 'a'").ok()?;
+    let two = read_plan(alloc, b"#\na  count from t where x = 'a' \n").ok()?;
+    let three = read_plan(alloc, b"a count from t where x = 'b'").ok()?;
+    Some(one.is_same(&two) && !one.is_same(&three))
 }
 
 #[test]

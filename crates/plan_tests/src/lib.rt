@@ -8,6 +8,4 @@ mod faults;
 #[cfg(test)]
 mod fragments;
 #[cfg(test)]
-mod sizes;
-#[cfg(test)]
 mod texts;
