@@ -33,7 +33,7 @@ use Rattle.row_bounds.specs.Laws.{TailsAreBounded}
 use Rattle.tail_faults.specs.Laws.{StripeFootersHaveThreeFaults}
 use Rattle.fragment_scan.specs.Outcomes.{IsOutcomeFor, broken_failure}
 use Rattle.fragment_scan.specs.Scanned.{FoldsStripes}
-use Rattle.fragment_scan.proofs.Forms.{fold_is_for, answered_no_read, if_answered, broken_no_read, broken_is_for, broken_so}
+use Rattle.fragment_scan.proofs.Forms.{fold_is_for, answered_no_read, if_answered, broken_no_read, broken_unended, broken_is_for, broken_so}
 
 -- ---- told files hold bytes
 
@@ -121,7 +121,7 @@ module _ {S : Type 0} (did : S → List Act → S → Type 0) (count : S → ℕ
   broke three last why w = record {
     acts = w.acts;
     by = w.by;
-    rest = tt;
+    rest = broken_unended why _;
     cause = record { later = w.cause.later; failed = λ e. absurd (broken_no_read why e) };
     is_for = broken_is_for why w.content;
     means = λ bytes has tail_is. λ no_fault.

@@ -25,11 +25,24 @@ use Rattle.fragment_meaning.specs.ScanColumns.{by_number, scan_columns}
 use Rattle.fragment_meaning.specs.ScanOutcome.{failed, IsOutcomeOfStripes, IsOutcomeOfColumns, IsOutcomeOn}
 use Rattle.fragment_scan.specs.Outcomes.{IsOutcomeFor}
 
--- this is so of an answer that isn't a failure
-abbrev pub IfAnswer : Result Outcome NoMemory → Type 0 → Type 0
-IfAnswer (Ok (outcome.Answer a)) P = P
-IfAnswer (Ok (outcome.Failure why)) P = Unit {0}
-IfAnswer (Err refused) P = Unit {0}
+-- this is so where the whole total is too large, which is seen once all rows were walked
+abbrev pub IfOverflow : Failure → Type 0 → Type 0
+IfOverflow failure.NoFile P = Unit {0}
+IfOverflow (failure.Compressed kind) P = Unit {0}
+IfOverflow (failure.BrokenTail fault) P = Unit {0}
+IfOverflow (failure.BrokenFooter stripe fault) P = Unit {0}
+IfOverflow (failure.BrokenColumn stripe column fault) P = Unit {0}
+IfOverflow (failure.NoColumn name) P = Unit {0}
+IfOverflow (failure.WrongKind name) P = Unit {0}
+IfOverflow failure.Overflow P = P
+IfOverflow (failure.SourceFailed source) P = Unit {0}
+IfOverflow failure.ReadFault P = Unit {0}
+
+-- this is so where all rows were walked: at an answer, or where the whole total is too large
+abbrev pub IfEnded : Result Outcome NoMemory → Type 0 → Type 0
+IfEnded (Ok (outcome.Answer a)) P = P
+IfEnded (Ok (outcome.Failure why)) P = IfOverflow why P
+IfEnded (Err refused) P = Unit {0}
 
 -- a read failed
 abbrev pub IsReadFault : Result Outcome NoMemory → Type 0
@@ -41,10 +54,10 @@ IfDecided answer P = IfOk answer (λ o. o ≢ failed failure.ReadFault → P o)
 
 -- ---- acts
 
--- with an answer, a walk over all stripes by ascending numbers of the columns, each once; with no column no stripe's footer is read
+-- with an answer or an overflow, a walk over all stripes by ascending numbers of the columns, each once; with no column no stripe's footer is read
 abbrev pub WalkedWhole : Option Files → FileRef → List Stripe → List ReadColumn → List Act → Result Outcome NoMemory → Type 0
 WalkedWhole files file stripes named rest answer =
-    IfAnswer answer ((pieces : List Piece) × AreStripeWalks files file (by_number named) stripes pieces rest)
+    IfEnded answer ((pieces : List Piece) × AreStripeWalks files file (by_number named) stripes pieces rest)
 
 -- where the scan can't read its columns, nothing more is done
 abbrev pub RestByColumns : Option Files → FileRef → List Stripe → Result (List ReadColumn) Failure → List Act → Result Outcome NoMemory
