@@ -25,7 +25,7 @@ use Rattle.cache_placement.specs.Exact.{AreStates, IsExact, IsFirstArena}
 use Rattle.cache_placement.specs.Free.{IsFirstFree}
 use Rattle.cache_placement.specs.Steps.{AskSteps, OpenSteps, PlaceSteps, none_left, full, got, raced, lost, filled, set_full, no_room, arena_raced, opens}
 
-module _ (files : Option Files) (g : Geometry) (id : ℕ) (key : Key) (order : ℕ) (ws : List ℕ) where
+module _ (files : Option Files) (g : Geometry) (id : ℕ) (key : Key) (order : ℕ) (ws : List ℕ) (until : ℕ) (few : until ≤ g.arenas) where
   ends : (w x : View) (k : Option (List ℕ)) → w ≡ x → x.known ≡ k → w.known ≡ k
   ends w x k e is = ap (λ (z : View). z.known) e ∙ is
 
@@ -33,9 +33,9 @@ module _ (files : Option Files) (g : Geometry) (id : ℕ) (key : Key) (order : �
 
   abbrev ExactAsk : List ℕ → ℕ → Asked → View → Type 0
   ExactAsk words from (asked.Got grant) w =
-      (arena offset value : ℕ) × IsFirstArena g order ws from arena offset × (block_of grant ≡ block_at (64 * arena + offset) order) × (w.known ≡ Some (slice_set ws arena value))
+      (arena offset value : ℕ) × IsFirstArena order ws from until arena offset × (block_of grant ≡ block_at (64 * arena + offset) order) × (w.known ≡ Some (slice_set ws arena value))
   ExactAsk words from (asked.Raced saw) w = ⊥
-  ExactAsk words from asked.Full w = ((arena : ℕ) → from ≤ arena → arena < g.arenas → slice_index words arena ≡ slice_index ws arena) × (w.known ≡ Some ws)
+  ExactAsk words from asked.Full w = ((arena : ℕ) → from ≤ arena → arena < until → slice_index words arena ≡ slice_index ws arena) × (w.known ≡ Some ws)
 
   none_there : (arena found i : ℕ) → i ≡ arena → slice_index ws arena ≡ found → IsBuddyAnswer 64 found order None → IsBuddyAnswer 64 (slice_index ws i) order None
   none_there arena found i same is none =
@@ -71,7 +71,7 @@ module _ (files : Option Files) (g : Geometry) (id : ℕ) (key : Key) (order : �
       let size = pow_pos answer.0 in
       omega (arith, end, size)
 
-  ask_exact : (words : List ℕ) (arena : ℕ) (v w : View) (ss : List WordStep) (r : Asked) → v.known ≡ Some ws → AreMade files g id ss v w → AskSteps g order words arena ss r → ExactAsk words arena r w
+  ask_exact : (words : List ℕ) (arena : ℕ) (v w : View) (ss : List WordStep) (r : Asked) → v.known ≡ Some ws → AreMade files g id ss v w → AskSteps g order words until arena ss r → ExactAsk words arena r w
   ask_exact words arena v w ss r e all (none_left _ is) = ((λ i le lt. absurd (omega (arith, is, le, lt))), ends w v (Some ws) all e)
   ask_exact words arena v w ss r e all (full _ found ts _ inside none at more) =
       let f = known_found files g id (step.Looked (Arena arena) found) v all.0 ws e all.1 in
@@ -101,22 +101,23 @@ module _ (files : Option Files) (g : Geometry) (id : ℕ) (key : Key) (order : �
   parts [] ts v w all = (v, refl, all)
   parts (s ∷ ss) ts v w all = let rest = parts ss ts all.0 w all.2 in (rest.0, (all.0, all.1, rest.1), rest.2)
 
-  module _ (first : ℕ) (states : List ℕ) (are : AreStates g ws first states) where
-    open_exact : (way arena offset value : ℕ) (b : Block) (v w : View) (ss : List WordStep) (r : Placed) → IsFirstFree states way → IsFirstArena g order ws 0 arena offset → b ≡ block_at (64 * arena + offset) order → v.known ≡ Some (slice_set ws arena value) → AreMade files g id ss v w → OpenSteps key (first + way) b ss r → IsExact g order ws first states w r
+  module _ (first : ℕ) (states : List ℕ) (from : ℕ) (are : AreStates g ws first states) where
+    open_exact : (way arena offset value : ℕ) (b : Block) (v w : View) (ss : List WordStep) (r : Placed) → IsFirstFree states way → IsFirstArena order ws from until arena offset → b ≡ block_at (64 * arena + offset) order → v.known ≡ Some (slice_set ws arena value) → AreMade files g id ss v w → OpenSteps key (first + way) b ss r → IsExact g order ws first states from until w r
     open_exact way arena offset value b v w ss r free there is e all (lost saw found far) =
         let word : ℕ = header_word g (first + way) in
-        let below = there.inside in
+        let inside = there.inside in
+        let below : arena < g.arenas = omega (arith, inside, few) in
         let told = known_found files g id (step.Missed (State (first + way)) saw) v all.0 _ e all.1 in
         let same = get_or-set_other ws arena word value 0 (λ q. omega (arith, q, below)) in
         far (sym told ∙ (same ∙ (sym (are way free.inside) ∙ free.free)))
     open_exact way arena offset value b v w ss r free there is e all (filled cells bytes found named published pin at its) = (way, arena, offset, free, there, at, its ∙ is)
 
-    pub place_exact : (v w : View) (ss : List WordStep) (r : Placed) → v.known ≡ Some ws → AreMade files g id ss v w → PlaceSteps g key order first states ss r → IsExact g order ws first states w r
+    pub place_exact : (v w : View) (ss : List WordStep) (r : Placed) → v.known ≡ Some ws → AreMade files g id ss v w → PlaceSteps g key order first states from until ss r → IsExact g order ws first states from until w r
     place_exact v w ss r e all (set_full none) = ends w v (Some ws) all e
     place_exact v w ss r e all (no_room way words _ is a past) =
-        let x = ask_exact words 0 v w ss asked.Full e all a in ((way, is), (λ arena lt. x.0 arena (omega arith) lt), x.1)
-    place_exact v w ss r e all (arena_raced way saw words _ is a) = ask_exact words 0 v w ss (asked.Raced saw) e all a
+        let x = ask_exact words from v w ss asked.Full e all a in ((way, is), x.0, x.1)
+    place_exact v w ss r e all (arena_raced way saw words _ is a) = ask_exact words from v w ss (asked.Raced saw) e all a
     place_exact v w ss r e all (opens way words grant xs ts _ is a o) =
         let p = parts xs ts v w all in
-        let x = ask_exact words 0 v p.0 xs (asked.Got grant) e p.1 a in
+        let x = ask_exact words from v p.0 xs (asked.Got grant) e p.1 a in
         open_exact way x.0 x.1 x.2 (block_of grant) p.0 w ts r is x.3 x.4 x.5 p.2 o

@@ -6,13 +6,15 @@ use Rattle.std.proofs.lemmas.Bool.{cases_eq}
 use Rattle.buddy_arena.specs.Buddy.{IsBuddyAnswer}
 use Rattle.buffer_word.specs.declared.key_word.Key.{Key}
 use Rattle.pool_model.specs.declared.block.Block.{Block}
+use Rattle.pool_model.specs.declared.buffer.BufferKey.{BufferKey}
 use Rattle.pool_rule.specs.declared.geometry.Geometry.{Geometry}
 use Rattle.pool_rule.specs.declared.geometry.WordName.TheVariants.{Arena, State}
 use Rattle.pool_rule.specs.declared.view.Access.TheVariants.{Loaded}
 use Rattle.pool_rule.specs.declared.word_step.WordStep.{WordStep}
 use Rattle.pool_rule.specs.declared.word_step.WordStep.TheVariants as step
 use Rattle.pool_rule.specs.WordSteps.{event_of}
-use Rattle.buffer_pool.specs.Pools.{block_of}
+use Rattle.buffer_pool.specs.Made.{cell_in, fill_steps}
+use Rattle.buffer_pool.specs.Pools.{block_of, buffer_key}
 use Rattle.cache_lookup.specs.Trails.{Among, events, last_load, left, loaded}
 use Rattle.cache_lookup.specs.TrailLaws.{AreNoLoads, among_back, among_either, last_load-none, left_here, loaded_here, no_load_away}
 use Rattle.cache_placement.specs.declared.arenas.Asked.{Asked}
@@ -37,9 +39,9 @@ IfRaced P (asked.Got grant) = Unit {0}
 IfRaced P (asked.Raced saw) = P saw
 IfRaced P asked.Full = Unit {0}
 
-module _ (g : Geometry) (order : ℕ) (words : List ℕ) where
+module _ (g : Geometry) (order : ℕ) (words : List ℕ) (until : ℕ) where
   -- no step loads an arena's word before that one
-  ask_away : (word arena : ℕ) (ss : List WordStep) (r : Asked) → word < arena → AskSteps g order words arena ss r → AreNoLoads word (events g ss)
+  ask_away : (word arena : ℕ) (ss : List WordStep) (r : Asked) → word < arena → AskSteps g order words until arena ss r → AreNoLoads word (events g ss)
   ask_away word arena ss r h (none_left _ e) = tt
   ask_away word arena ss r h (full _ found ts _ lt none at more) = (no_load_away word arena found found Loaded (λ e. omega (arith, e, h)), ask_away word (arena + 1) ts r (omega (arith, h)) more)
   ask_away word arena ss r h (got _ found offset grant lt answer is) = (no_load_away word arena found found Loaded (λ e. omega (arith, e, h)), (refl, tt))
@@ -49,7 +51,7 @@ module _ (g : Geometry) (order : ℕ) (words : List ℕ) where
   abbrev Shown : List WordStep → ℕ → Type 0
   Shown ss i = (last_load i (events g ss) ≡ Some (slice_index words i)) × IsBuddyAnswer 64 (slice_index words i) order None
 
-  ask_full : (arena : ℕ) (ss : List WordStep) (r : Asked) → IsFull r → AskSteps g order words arena ss r → (i : ℕ) → arena ≤ i → i < g.arenas → Shown ss i
+  ask_full : (arena : ℕ) (ss : List WordStep) (r : Asked) → IsFull r → AskSteps g order words until arena ss r → (i : ℕ) → arena ≤ i → i < until → Shown ss i
   ask_full arena ss r is (none_left _ e) i le lt = absurd (omega (arith, e, le, lt))
   ask_full arena ss r is (full _ found ts _ inside none at more) i le lt =
       let s = step.Looked (Arena arena) found in
@@ -81,14 +83,14 @@ module _ (g : Geometry) (order : ℕ) (words : List ℕ) where
       }
   raced_later s ss asked.Full h = tt
 
-  ask_raced : (arena : ℕ) (ss : List WordStep) (r : Asked) → AskSteps g order words arena ss r → IfRaced (IsArenaRaced g ss) r
-  ask_raced arena ss r (none_left _ e) = tt
-  ask_raced arena ss r (full _ found ts _ inside none at more) = raced_later (step.Looked (Arena arena) found) ts r (ask_raced (arena + 1) ts r more)
-  ask_raced arena ss r (got _ found offset grant inside answer at) = tt
-  ask_raced arena ss r (raced _ found saw inside other) =
+  ask_raced : until ≤ g.arenas → (arena : ℕ) (ss : List WordStep) (r : Asked) → AskSteps g order words until arena ss r → IfRaced (IsArenaRaced g ss) r
+  ask_raced few arena ss r (none_left _ e) = tt
+  ask_raced few arena ss r (full _ found ts _ inside none at more) = raced_later (step.Looked (Arena arena) found) ts r (ask_raced few (arena + 1) ts r more)
+  ask_raced few arena ss r (got _ found offset grant inside answer at) = tt
+  ask_raced few arena ss r (raced _ found saw inside other) =
       record {
         arena = arena;
-        inside = inside;
+        inside = omega (arith, inside, few);
         earlier = step.Looked (Arena arena) found ∷ [];
         later = [];
         parts = refl;
@@ -98,7 +100,7 @@ module _ (g : Geometry) (order : ℕ) (words : List ℕ) where
       }
 
   -- a grant is a block that was got, and nothing is opened
-  ask_grants : (b : Block) (f arena : ℕ) (ss : List WordStep) (r : Asked) → AskSteps g order words arena ss r → Among (step.Granted b f) ss → IsGot r
+  ask_grants : (b : Block) (f arena : ℕ) (ss : List WordStep) (r : Asked) → AskSteps g order words until arena ss r → Among (step.Granted b f) ss → IsGot r
   ask_grants b f arena ss r (none_left _ e) gone = absurd gone
   ask_grants b f arena ss r (full _ found ts _ inside none at more) (inl e) = absurd (let no : ⊥ = cc in no)
   ask_grants b f arena ss r (full _ found ts _ inside none at more) (inr there) = ask_grants b f (arena + 1) ts r more there
@@ -107,7 +109,7 @@ module _ (g : Geometry) (order : ℕ) (words : List ℕ) where
   ask_grants b f arena ss r (raced _ found saw inside other) (inr (inl e)) = absurd (let no : ⊥ = cc in no)
   ask_grants b f arena ss r (raced _ found saw inside other) (inr (inr gone)) = absurd gone
 
-  ask_opens : (header : ℕ) (b : Block) (cells : List ℕ) (arena : ℕ) (ss : List WordStep) (r : Asked) → AskSteps g order words arena ss r → Among (step.Opened header b cells) ss → ⊥
+  ask_opens : (header : ℕ) (b : Block) (cells : List ℕ) (arena : ℕ) (ss : List WordStep) (r : Asked) → AskSteps g order words until arena ss r → Among (step.Opened header b cells) ss → ⊥
   ask_opens header b cells arena ss r (none_left _ e) gone = gone
   ask_opens header b cells arena ss r (full _ found ts _ inside none at more) (inl e) = (let no : ⊥ = cc in no)
   ask_opens header b cells arena ss r (full _ found ts _ inside none at more) (inr there) = ask_opens header b cells (arena + 1) ts r more there
@@ -118,9 +120,38 @@ module _ (g : Geometry) (order : ℕ) (words : List ℕ) where
   ask_opens header b cells arena ss r (raced _ found saw inside other) (inr (inl e)) = (let no : ⊥ = cc in no)
   ask_opens header b cells arena ss r (raced _ found saw inside other) (inr (inr gone)) = gone
 
+  ask_releases : (header : ℕ) (b : Block) (f arena : ℕ) (ss : List WordStep) (r : Asked) → AskSteps g order words until arena ss r → Among (step.HeaderReleased header b f) ss → ⊥
+  ask_releases header b f arena ss r (none_left _ e) gone = gone
+  ask_releases header b f arena ss r (full _ found ts _ inside none at more) (inl e) = (let no : ⊥ = cc in no)
+  ask_releases header b f arena ss r (full _ found ts _ inside none at more) (inr there) = ask_releases header b f (arena + 1) ts r more there
+  ask_releases header b f arena ss r (got _ found offset grant inside answer at) (inl e) = (let no : ⊥ = cc in no)
+  ask_releases header b f arena ss r (got _ found offset grant inside answer at) (inr (inl e)) = (let no : ⊥ = cc in no)
+  ask_releases header b f arena ss r (got _ found offset grant inside answer at) (inr (inr gone)) = gone
+  ask_releases header b f arena ss r (raced _ found saw inside other) (inl e) = (let no : ⊥ = cc in no)
+  ask_releases header b f arena ss r (raced _ found saw inside other) (inr (inl e)) = (let no : ⊥ = cc in no)
+  ask_releases header b f arena ss r (raced _ found saw inside other) (inr (inr gone)) = gone
+
 -- ---- the new buffer
 
+fills_release : (header : ℕ) (b : Block) (f h : ℕ) (c : Block) (key : BufferKey) (cell : ℕ → ℕ) (done : ℕ) (found : List ℕ) → Among (step.HeaderReleased header b f) (fill_steps h c key cell done found) → ⊥
+fills_release header b f h c key cell done [] gone = gone
+fills_release header b f h c key cell done (x ∷ xs) (inl e) = (let no : ⊥ = cc in no)
+fills_release header b f h c key cell done (x ∷ xs) (inr there) = fills_release header b f h c key cell (done + 1) xs there
+
 module _ (key : Key) (header : ℕ) (b : Block) where
+  open_releases : (h : ℕ) (c : Block) (f : ℕ) (ts : List WordStep) (r : Placed) → OpenSteps key header b ts r → Among (step.HeaderReleased h c f) ts → ⊥
+  open_releases h c f ts r (lost saw found far) (inl e) = (let no : ⊥ = cc in no)
+  open_releases h c f ts r (lost saw found far) (inr (inl e)) = (let no : ⊥ = cc in no)
+  open_releases h c f ts r (lost saw found far) (inr (inr gone)) = gone
+  open_releases h c f ts r (filled cells bytes found named published pin is its) (inl e) = (let no : ⊥ = cc in no)
+  open_releases h c f ts r (filled cells bytes found named published pin is its) (inr (inl e)) = (let no : ⊥ = cc in no)
+  open_releases h c f ts r (filled cells bytes found named published pin is its) (inr (inr there)) =
+      let fills = fill_steps header b (buffer_key key) (cell_in bytes) 0 found in
+      elim (among_either (step.HeaderReleased h c f) fills (step.Published header b (buffer_key key) published ∷ []) there) [
+        | inl front ↦ fills_release h c f header b (buffer_key key) (cell_in bytes) 0 found front
+        | inr rest ↦ elim rest [ inl e ↦ (let no : ⊥ = cc in no) | inr gone ↦ gone ]
+      ]
+
   -- a header that was granted a block is filled or lost
   open_answer : (xs ts : List WordStep) (r : Placed) → OpenSteps key header b ts r → IsFilled r ⊎ IsLost (xs ++ ts) r
   open_answer xs ts r (lost saw found far) = inr (header, saw, refl, among_back (step.Missed (State header) saw) xs _ (inl refl))
@@ -132,38 +163,48 @@ module _ (key : Key) (header : ℕ) (b : Block) where
   open_opens h c cells ts r (lost saw found far) (inr (inr gone)) = absurd gone
   open_opens h c cells ts r (filled all bytes found named published pin is its) there = tt
 
-  open_tells : (g : Geometry) (order first way : ℕ) (states : List ℕ) (xs ts : List WordStep) (r : Placed) → header ≡ first + way → IsFirstFree states way → OpenSteps key header b ts r → Tells g order first states (xs ++ ts) r
-  open_tells g order first way states xs ts r at free (lost saw found far) =
+  open_tells : (g : Geometry) (order first way : ℕ) (states : List ℕ) (from until : ℕ) (xs ts : List WordStep) (r : Placed) → header ≡ first + way → IsFirstFree states way → OpenSteps key header b ts r → Tells g order first states from until (xs ++ ts) r
+  open_tells g order first way states from until xs ts r at free (lost saw found far) =
       let P : ℕ → Type 0 = λ n. IsHeaderRaced n (xs ++ ts) saw in
       inr (way, free, subst P at (record { missed = among_back (step.Missed (State header) saw) xs _ (inl refl); other = far }))
-  open_tells g order first way states xs ts r at free (filled cells bytes found named published pin is its) = tt
+  open_tells g order first way states from until xs ts r at free (filled cells bytes found named published pin is its) = tt
 
 -- ---- the whole
 
-module _ (g : Geometry) (key : Key) (order first : ℕ) (states : List ℕ) where
-  pub place_tells : (ss : List WordStep) (r : Placed) → PlaceSteps g key order first states ss r → Tells g order first states ss r
-  place_tells ss r (set_full none) = (none, refl, refl)
-  place_tells ss r (no_room way words _ is a past) =
+module _ (g : Geometry) (key : Key) (order first : ℕ) (states : List ℕ) (from until : ℕ) where
+  pub place_tells : until ≤ g.arenas → (ss : List WordStep) (r : Placed) → PlaceSteps g key order first states from until ss r → Tells g order first states from until ss r
+  place_tells few ss r (set_full none) = (none, refl, refl)
+  place_tells few ss r (no_room way words _ is a past) =
       record {
-        last = λ arena lt. (ask_full g order words 0 ss asked.Full tt a arena (omega arith) lt).0;
-        none = λ arena lt. (ask_full g order words 0 ss asked.Full tt a arena (omega arith) lt).1;
+        last = λ arena le lt. (ask_full g order words until from ss asked.Full tt a arena le lt).0;
+        none = λ arena le lt. (ask_full g order words until from ss asked.Full tt a arena le lt).1;
         past = past;
       }
-  place_tells ss r (arena_raced way saw words _ is a) = inl (ask_raced g order words 0 ss (asked.Raced saw) a)
-  place_tells ss r (opens way words grant xs ts _ is a o) = open_tells key (first + way) (block_of grant) g order first way states xs ts r refl is o
+  place_tells few ss r (arena_raced way saw words _ is a) = inl (ask_raced g order words until few from ss (asked.Raced saw) a)
+  place_tells few ss r (opens way words grant xs ts _ is a o) = open_tells key (first + way) (block_of grant) g order first way states from until xs ts r refl is o
 
-  pub place_granted : (ss : List WordStep) (r : Placed) → PlaceSteps g key order first states ss r → (b : Block) (found : ℕ) → Among (step.Granted b found) ss → IsFilled r ⊎ IsLost ss r
+  pub place_granted : (ss : List WordStep) (r : Placed) → PlaceSteps g key order first states from until ss r → (b : Block) (found : ℕ) → Among (step.Granted b found) ss → IsFilled r ⊎ IsLost ss r
   place_granted ss r (set_full none) b found gone = absurd gone
-  place_granted ss r (no_room way words _ is a past) b found there = absurd (ask_grants g order words b found 0 ss asked.Full a there)
-  place_granted ss r (arena_raced way saw words _ is a) b found there = absurd (ask_grants g order words b found 0 ss (asked.Raced saw) a there)
+  place_granted ss r (no_room way words _ is a past) b found there = absurd (ask_grants g order words until b found from ss asked.Full a there)
+  place_granted ss r (arena_raced way saw words _ is a) b found there = absurd (ask_grants g order words until b found from ss (asked.Raced saw) a there)
   place_granted ss r (opens way words grant xs ts _ is a o) b found there = open_answer key (first + way) (block_of grant) xs ts r o
 
-  pub place_opened : (ss : List WordStep) (r : Placed) → PlaceSteps g key order first states ss r → (header : ℕ) (b : Block) (cells : List ℕ) → Among (step.Opened header b cells) ss → IsFilled r
+  pub place_opened : (ss : List WordStep) (r : Placed) → PlaceSteps g key order first states from until ss r → (header : ℕ) (b : Block) (cells : List ℕ) → Among (step.Opened header b cells) ss → IsFilled r
   place_opened ss r (set_full none) header b cells gone = absurd gone
-  place_opened ss r (no_room way words _ is a past) header b cells there = absurd (ask_opens g order words header b cells 0 ss asked.Full a there)
-  place_opened ss r (arena_raced way saw words _ is a) header b cells there = absurd (ask_opens g order words header b cells 0 ss (asked.Raced saw) a there)
+  place_opened ss r (no_room way words _ is a past) header b cells there = absurd (ask_opens g order words until header b cells from ss asked.Full a there)
+  place_opened ss r (arena_raced way saw words _ is a) header b cells there = absurd (ask_opens g order words until header b cells from ss (asked.Raced saw) a there)
   place_opened ss r (opens way words grant xs ts _ is a o) header b cells there =
       elim (among_either (step.Opened header b cells) xs ts there) [
-        | inl front ↦ absurd (ask_opens g order words header b cells 0 xs (asked.Got grant) a front)
+        | inl front ↦ absurd (ask_opens g order words until header b cells from xs (asked.Got grant) a front)
         | inr rest ↦ open_opens key (first + way) (block_of grant) header b cells ts r o rest
+      ]
+
+  pub place_released : (ss : List WordStep) (r : Placed) → PlaceSteps g key order first states from until ss r → (header : ℕ) (b : Block) (found : ℕ) → Among (step.HeaderReleased header b found) ss → ⊥
+  place_released ss r (set_full none) header b found gone = gone
+  place_released ss r (no_room way words _ is a past) header b found there = ask_releases g order words until header b found from ss asked.Full a there
+  place_released ss r (arena_raced way saw words _ is a) header b found there = ask_releases g order words until header b found from ss (asked.Raced saw) a there
+  place_released ss r (opens way words grant xs ts _ is a o) header b found there =
+      elim (among_either (step.HeaderReleased header b found) xs ts there) [
+        | inl front ↦ ask_releases g order words until header b found from xs (asked.Got grant) a front
+        | inr rest ↦ open_releases key (first + way) (block_of grant) header b found ts r o rest
       ]

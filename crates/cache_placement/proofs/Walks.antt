@@ -80,13 +80,13 @@ module _ (files : Option Files) (g : Geometry) (id : ℕ) (key : Key) (hit : Typ
     pub right : AreRight files g id key hit start before v ss w
     pub after : AfterAsk w r
 
-  pub ask_walk : (order : ℕ) (words : List ℕ) (arena : ℕ) (before : List WordStep) (v w : View) (ss : List WordStep) (r : Asked) → IsKept start v → AreMade files g id ss v w → AskSteps g order words arena ss r → AskWalk before v ss w r
-  ask_walk order words arena before v w ss r c all (none_left _ e) = let P : View → Type 0 = λ x. IsAsBefore start x in record { right = all; after = subst P (sym all) c.same }
-  ask_walk order words arena before v w ss r c all (full _ word ts _ lt none at more) =
+  pub ask_walk : (order : ℕ) (words : List ℕ) (until arena : ℕ) (before : List WordStep) (v w : View) (ss : List WordStep) (r : Asked) → IsKept start v → AreMade files g id ss v w → AskSteps g order words until arena ss r → AskWalk before v ss w r
+  ask_walk order words until arena before v w ss r c all (none_left _ e) = let P : View → Type 0 = λ x. IsAsBefore start x in record { right = all; after = subst P (sym all) c.same }
+  ask_walk order words until arena before v w ss r c all (full _ word ts _ lt none at more) =
       let next = kept_arena files g id start v all.0 arena word all.1 c in
-      let rest = ask_walk order words (arena + 1) (before ++ step.Looked (Arena arena) word ∷ []) all.0 w ts r next all.2 more in
+      let rest = ask_walk order words until (arena + 1) (before ++ step.Looked (Arena arena) word ∷ []) all.0 w ts r next all.2 more in
       record { right = (all.0, all.1, right_arena g key hit start before arena word v c.same, rest.right); after = rest.after }
-  ask_walk order words arena before v w ss r c all (got _ word offset grant lt found is) =
+  ask_walk order words until arena before v w ss r c all (got _ word offset grant lt found is) =
       let next = kept_arena files g id start v all.0 arena word all.1 c in
       let b = block_at (64 * arena + offset) order in
       let has = block_granted files g id start all.0 all.2.0 b word all.2.1 next in
@@ -98,7 +98,7 @@ module _ (files : Option Files) (g : Geometry) (id : ℕ) (key : Key) (hit : Typ
         right = (all.0, all.1, right_arena g key hit start before arena word v c.same, right_all (before ++ step.Looked (Arena arena) word ∷ []) (step.Granted b word ∷ []) all.0 w only all.2);
         after = subst P (λ i. (e i, f i)) has;
       }
-  ask_walk order words arena before v w ss r c all (raced _ word saw lt other) =
+  ask_walk order words until arena before v w ss r c all (raced _ word saw lt other) =
       let next = kept_arena files g id start v all.0 arena word all.1 c in
       let P : View → Type 0 = λ x. IsAsBefore start x in
       let only : AreElse (step.Missed (Arena arena) saw ∷ []) = (missed_else (Arena arena) saw, tt) in
@@ -144,15 +144,15 @@ module _ (files : Option Files) (g : Geometry) (id : ℕ) (key : Key) (hit : Typ
         leaves = subst P (λ i. (e i, f i)) four;
       }
 
-  pub place_walk : (order first : ℕ) (states : List ℕ) (before : List WordStep) (v w : View) (ss : List WordStep) (r : Placed) → first + 8 ≤ length start.marks → IsKept start v → AreMade files g id ss v w → PlaceSteps g key order first states ss r → PlaceWalk before v ss w r
-  place_walk order first states before v w ss r inside c all (set_full none) = let P : View → Type 0 = λ x. IsAsBefore start x in record { right = all; leaves = subst P (sym all) c.same }
-  place_walk order first states before v w ss r inside c all (no_room way words _ is a past) =
-      let one = ask_walk order words 0 before v w ss asked.Full c all a in record { right = one.right; leaves = one.after }
-  place_walk order first states before v w ss r inside c all (arena_raced way saw words _ is a) =
-      let one = ask_walk order words 0 before v w ss (asked.Raced saw) c all a in record { right = one.right; leaves = one.after }
-  place_walk order first states before v w ss r inside c all (opens way words grant xs ts _ is a o) =
+  pub place_walk : (order first : ℕ) (states : List ℕ) (from until : ℕ) (before : List WordStep) (v w : View) (ss : List WordStep) (r : Placed) → first + 8 ≤ length start.marks → IsKept start v → AreMade files g id ss v w → PlaceSteps g key order first states from until ss r → PlaceWalk before v ss w r
+  place_walk order first states from until before v w ss r inside c all (set_full none) = let P : View → Type 0 = λ x. IsAsBefore start x in record { right = all; leaves = subst P (sym all) c.same }
+  place_walk order first states from until before v w ss r inside c all (no_room way words _ is a past) =
+      let one = ask_walk order words until from before v w ss asked.Full c all a in record { right = one.right; leaves = one.after }
+  place_walk order first states from until before v w ss r inside c all (arena_raced way saw words _ is a) =
+      let one = ask_walk order words until from before v w ss (asked.Raced saw) c all a in record { right = one.right; leaves = one.after }
+  place_walk order first states from until before v w ss r inside c all (opens way words grant xs ts _ is a o) =
       let p = parts xs ts v w all in
-      let one = ask_walk order words 0 before v p.0 xs (asked.Got grant) c p.1 a in
+      let one = ask_walk order words until from before v p.0 xs (asked.Got grant) c p.1 a in
       let there = is.inside in
       let two = open_walk (first + way) (block_of grant) (before ++ xs) p.0 w ts r (omega (arith, inside, there)) one.after p.2 o in
       record { right = right_then files g id key hit start before xs ts v p.0 w one.right two.right; leaves = two.leaves }

@@ -10,9 +10,9 @@ use Rattle.cache_placement.specs.declared.why.Placed.TheVariants.{Filled, Bypass
 use Rattle.cache_placement.specs.declared.why.Why.TheVariants.{NoRoom, Raced, Busy, SetFull, PolicyOut}
 use Rattle.cache_placement.specs.Free.{IsFirstFree}
 
--- the first arena, from one on, whose word has a free block of the order, and where
-pub record IsFirstArena (g : Geometry) (order : ℕ) (words : List ℕ) (from arena offset : ℕ) : Type 0 where
-  pub inside : arena < g.arenas
+-- the first arena, from one on and below another, whose word has a free block of the order, and where
+pub record IsFirstArena (order : ℕ) (words : List ℕ) (from until arena offset : ℕ) : Type 0 where
+  pub inside : arena < until
   pub answer : IsBuddyAnswer 64 (slice_index words arena) order (Some offset)
   pub before : (lower : ℕ) → from ≤ lower → lower < arena → IsBuddyAnswer 64 (slice_index words lower) order None
 
@@ -22,14 +22,14 @@ AreStates g words first states = (way : ℕ) → way < 8 → slice_index states 
 
 -- The range is filled in the lowest free way, with the block of the first arena that has one; or the answer shows that there is
 -- no way or no arena, and the words are as they were. Nothing is lost to another seat.
-abbrev pub IsExact : Geometry → ℕ → List ℕ → ℕ → List ℕ → View → Placed → Type 0
-IsExact g order words first states new (Filled pin) =
-    (way arena offset : ℕ) × IsFirstFree states way × IsFirstArena g order words 0 arena offset × (pin_header pin ≡ first + way)
+abbrev pub IsExact : Geometry → ℕ → List ℕ → ℕ → List ℕ → ℕ → ℕ → View → Placed → Type 0
+IsExact g order words first states from until new (Filled pin) =
+    (way arena offset : ℕ) × IsFirstFree states way × IsFirstArena order words from until arena offset × (pin_header pin ≡ first + way)
     × (pin_block pin ≡ block_at (64 * arena + offset) order)
-IsExact g order words first states new (Bypass (NoRoom seen)) =
-    ((way : ℕ) × IsFirstFree states way) × ((arena : ℕ) → arena < g.arenas → slice_index seen arena ≡ slice_index words arena)
+IsExact g order words first states from until new (Bypass (NoRoom seen)) =
+    ((way : ℕ) × IsFirstFree states way) × ((arena : ℕ) → from ≤ arena → arena < until → slice_index seen arena ≡ slice_index words arena)
     × (new.known ≡ Some words)
-IsExact g order words first states new (Bypass (SetFull seen)) = new.known ≡ Some words
-IsExact g order words first states new (Bypass (Raced saw)) = ⊥
-IsExact g order words first states new (Bypass (Busy word)) = ⊥
-IsExact g order words first states new (Bypass PolicyOut) = ⊥
+IsExact g order words first states from until new (Bypass (SetFull seen)) = new.known ≡ Some words
+IsExact g order words first states from until new (Bypass (Raced saw)) = ⊥
+IsExact g order words first states from until new (Bypass (Busy word)) = ⊥
+IsExact g order words first states from until new (Bypass PolicyOut) = ⊥

@@ -8,7 +8,7 @@ use Rattle.pool_rule.specs.declared.geometry.Geometry.{Geometry}
 use Rattle.pool_rule.specs.declared.geometry.WordName.TheVariants.{Arena, State}
 use Rattle.pool_rule.specs.declared.view.View.{View}
 use Rattle.pool_rule.specs.declared.word_step.WordStep.{WordStep}
-use Rattle.pool_rule.specs.declared.word_step.WordStep.TheVariants.{Missed, Granted, Opened}
+use Rattle.pool_rule.specs.declared.word_step.WordStep.TheVariants.{Missed, Granted, HeaderReleased, Opened}
 use Rattle.buffer_pool.specs.declared.pool.Pool.{Pool}
 use Rattle.buffer_pool.specs.declared.seat.PoolSeat.{PoolSeat}
 use Rattle.buffer_pool.specs.Pools.{pin_header, seat_id, sizes_of, view}
@@ -22,12 +22,12 @@ use Rattle.cache_placement.specs.declared.why.Why.TheVariants.{NoRoom, Raced, Bu
 use Rattle.cache_placement.specs.Exact.{AreStates, IsExact}
 use Rattle.cache_placement.specs.Free.{IsFirstFree, NoneFree}
 
--- The words are the last loads of the arenas' words, and no arena has a free block of the order by them. Past the last arena
--- they are all ones.
-pub record HasNoRoom (g : Geometry) (order : ℕ) (ss : List WordStep) (words : List ℕ) : Type 0 where
-  pub last : (arena : ℕ) → arena < g.arenas → last_load arena (events g ss) ≡ Some (slice_index words arena)
-  pub none : (arena : ℕ) → arena < g.arenas → IsBuddyAnswer 64 (slice_index words arena) order None
-  pub past : (i : ℕ) → g.arenas ≤ i → i < 64 → slice_index words i ≡ 2 ^ 64 - 1
+-- The words are the last loads of the words of the arenas from one on and below another, and none of these has a free block of the
+-- order by them. Past the last of them they are all ones.
+pub record HasNoRoom (g : Geometry) (order from until : ℕ) (ss : List WordStep) (words : List ℕ) : Type 0 where
+  pub last : (arena : ℕ) → from ≤ arena → arena < until → last_load arena (events g ss) ≡ Some (slice_index words arena)
+  pub none : (arena : ℕ) → from ≤ arena → arena < until → IsBuddyAnswer 64 (slice_index words arena) order None
+  pub past : (i : ℕ) → until ≤ i → i < 64 → slice_index words i ≡ 2 ^ 64 - 1
 
 -- an exchange on an arena's word gave this word, which is another than the one with which this call's last step on it left it
 pub record IsArenaRaced (g : Geometry) (ss : List WordStep) (saw : ℕ) : Type 0 where
@@ -49,13 +49,13 @@ pub record IsHeaderRaced (header : ℕ) (ss : List WordStep) (saw : ℕ) : Type 
 abbrev pub IsRaced : Geometry → ℕ → List ℕ → List WordStep → ℕ → Type 0
 IsRaced g first states ss saw = IsArenaRaced g ss saw ⊎ ((way : ℕ) × IsFirstFree states way × IsHeaderRaced (first + way) ss saw)
 
-abbrev pub Tells : Geometry → ℕ → ℕ → List ℕ → List WordStep → Placed → Type 0
-Tells g order first states ss (Filled pin) = Unit {0}
-Tells g order first states ss (Bypass (NoRoom words)) = HasNoRoom g order ss words
-Tells g order first states ss (Bypass (Raced saw)) = IsRaced g first states ss saw
-Tells g order first states ss (Bypass (SetFull seen)) = NoneFree states × (seen ≡ states) × (ss ≡ [])
-Tells g order first states ss (Bypass (Busy word)) = ⊥
-Tells g order first states ss (Bypass PolicyOut) = ⊥
+abbrev pub Tells : Geometry → ℕ → ℕ → List ℕ → ℕ → ℕ → List WordStep → Placed → Type 0
+Tells g order first states from until ss (Filled pin) = Unit {0}
+Tells g order first states from until ss (Bypass (NoRoom words)) = HasNoRoom g order from until ss words
+Tells g order first states from until ss (Bypass (Raced saw)) = IsRaced g first states ss saw
+Tells g order first states from until ss (Bypass (SetFull seen)) = NoneFree states × (seen ≡ states) × (ss ≡ [])
+Tells g order first states from until ss (Bypass (Busy word)) = ⊥
+Tells g order first states from until ss (Bypass PolicyOut) = ⊥
 
 -- a pin is one hold more, and after any bypass the seat has what it had
 abbrev pub Leaves : View → View → Placed → Type 0
@@ -76,18 +76,21 @@ HoldsPlaced pool seat key (Filled pin) = IsPinFor pool seat key pin
 HoldsPlaced pool seat key (Bypass why) = Unit {0}
 
 -- The seat placed a range by these steps, with that answer. A grant makes the answer that the range is filled, or that the header
--- was lost, and an opening that it is filled.
+-- was lost, and an opening that it is filled. No header is released.
 -- If the seat knows the words, and the states are theirs, the answer follows from them.
-pub record IsPlacement (files : Option Files) (g : Geometry) (id : ℕ) (key : Key) (order first : ℕ) (states : List ℕ) (ss : List WordStep)
-    (old new : View) (placed : Placed) : Type 0 where
+pub record IsPlacement (files : Option Files) (g : Geometry) (id : ℕ) (key : Key) (order first : ℕ) (states : List ℕ) (from until : ℕ)
+    (ss : List WordStep) (old new : View) (placed : Placed) : Type 0 where
   pub right : AreRight files g id key ⊥ old [] old ss new
   pub leaves : Leaves old new placed
-  pub tells : Tells g order first states ss placed
+  pub tells : Tells g order first states from until ss placed
   pub granted : (b : Block) (found : ℕ) → Among (Granted b found) ss → IsFilled placed ⊎ IsLost ss placed
   pub opened : (header : ℕ) (b : Block) (cells : List ℕ) → Among (Opened header b cells) ss → IsFilled placed
-  pub exact : (words : List ℕ) → old.known ≡ Some words → AreStates g words first states → IsExact g order words first states new placed
+  pub unreleased : (header : ℕ) (b : Block) (found : ℕ) → Among (HeaderReleased header b found) ss → ⊥
+  pub exact : (words : List ℕ) → old.known ≡ Some words → AreStates g words first states →
+      IsExact g order words first states from until new placed
 
 -- some steps did
-abbrev pub PlacesRange : {W : Type 0} → Option Files → Pool W → PoolSeat W → PoolSeat W → Key → ℕ → ℕ → List ℕ → Placed → Type 0
-PlacesRange files pool old new key order first states placed =
-    (ss : List WordStep) × IsPlacement files (sizes_of pool) (seat_id old) key order first states ss (view old) (view new) placed
+abbrev pub PlacesRange : {W : Type 0} → Option Files → Pool W → PoolSeat W → PoolSeat W → Key → ℕ → ℕ → List ℕ → ℕ → ℕ → Placed → Type 0
+PlacesRange files pool old new key order first states from until placed =
+    (ss : List WordStep)
+    × IsPlacement files (sizes_of pool) (seat_id old) key order first states from until ss (view old) (view new) placed

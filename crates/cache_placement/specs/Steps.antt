@@ -23,17 +23,17 @@ use Rattle.cache_placement.specs.declared.why.Placed.TheVariants.{Filled, Bypass
 use Rattle.cache_placement.specs.declared.why.Why.TheVariants.{NoRoom, Raced, SetFull}
 use Rattle.cache_placement.specs.Free.{IsFirstFree, NoneFree}
 
--- the arenas from one on are asked in order; `words` has each word that was loaded
-pub data AskSteps (g : Geometry) (order : ℕ) (words : List ℕ) : ℕ → List WordStep → Asked → Type 0 where
-  none_left : (arena : ℕ) → arena ≡ g.arenas → AskSteps g order words arena [] Full
-  full : (arena word : ℕ) (ss : List WordStep) (r : Asked) → arena < g.arenas → IsBuddyAnswer 64 word order None
+-- the arenas from one on, below number `until`, are asked in order; `words` has each word that was loaded
+pub data AskSteps (g : Geometry) (order : ℕ) (words : List ℕ) (until : ℕ) : ℕ → List WordStep → Asked → Type 0 where
+  none_left : (arena : ℕ) → arena ≡ until → AskSteps g order words until arena [] Full
+  full : (arena word : ℕ) (ss : List WordStep) (r : Asked) → arena < until → IsBuddyAnswer 64 word order None
       → slice_index words arena ≡ word
-      → AskSteps g order words (arena + 1) ss r → AskSteps g order words arena (Looked (Arena arena) word ∷ ss) r
-  got : (arena word offset : ℕ) (grant : Grant) → arena < g.arenas → IsBuddyAnswer 64 word order (Some offset)
+      → AskSteps g order words until (arena + 1) ss r → AskSteps g order words until arena (Looked (Arena arena) word ∷ ss) r
+  got : (arena word offset : ℕ) (grant : Grant) → arena < until → IsBuddyAnswer 64 word order (Some offset)
       → block_of grant ≡ block_at (64 * arena + offset) order
-      → AskSteps g order words arena (Looked (Arena arena) word ∷ Granted (block_at (64 * arena + offset) order) word ∷ []) (Got grant)
-  raced : (arena word saw : ℕ) → arena < g.arenas → saw ≢ word
-      → AskSteps g order words arena (Looked (Arena arena) word ∷ Missed (Arena arena) saw ∷ []) (asked.Raced saw)
+      → AskSteps g order words until arena (Looked (Arena arena) word ∷ Granted (block_at (64 * arena + offset) order) word ∷ []) (Got grant)
+  raced : (arena word saw : ℕ) → arena < until → saw ≢ word
+      → AskSteps g order words until arena (Looked (Arena arena) word ∷ Missed (Arena arena) saw ∷ []) (asked.Raced saw)
 
 -- the header is lost and the block given back; or it is opened, named, filled and published
 pub data OpenSteps (key : Key) (header : ℕ) (b : Block) : List WordStep → Placed → Type 0 where
@@ -42,29 +42,30 @@ pub data OpenSteps (key : Key) (header : ℕ) (b : Block) : List WordStep → Pl
       → OpenSteps key header b (Opened header b cells ∷ Named header b (buffer_key key) named ∷ (fill_steps header b (buffer_key key) (cell_in bytes) 0 found ++ Published header b (buffer_key key) published ∷ [])) (Filled pin)
 
 -- a header, a block, and a buffer of both
-pub data PlaceSteps (g : Geometry) (key : Key) (order first : ℕ) (states : List ℕ) : List WordStep → Placed → Type 0 where
-  set_full : NoneFree states → PlaceSteps g key order first states [] (Bypass (SetFull states))
-  no_room : (way : ℕ) (words : List ℕ) (ss : List WordStep) → IsFirstFree states way → AskSteps g order words 0 ss Full
-      → ((i : ℕ) → g.arenas ≤ i → i < 64 → slice_index words i ≡ 2 ^ 64 - 1)
-      → PlaceSteps g key order first states ss (Bypass (NoRoom words))
+pub data PlaceSteps (g : Geometry) (key : Key) (order first : ℕ) (states : List ℕ) (from until : ℕ) : List WordStep → Placed → Type 0 where
+  set_full : NoneFree states → PlaceSteps g key order first states from until [] (Bypass (SetFull states))
+  no_room : (way : ℕ) (words : List ℕ) (ss : List WordStep) → IsFirstFree states way → AskSteps g order words until from ss Full
+      → ((i : ℕ) → until ≤ i → i < 64 → slice_index words i ≡ 2 ^ 64 - 1)
+      → PlaceSteps g key order first states from until ss (Bypass (NoRoom words))
   arena_raced : (way saw : ℕ) (words : List ℕ) (ss : List WordStep) → IsFirstFree states way
-      → AskSteps g order words 0 ss (asked.Raced saw)
-      → PlaceSteps g key order first states ss (Bypass (Raced saw))
+      → AskSteps g order words until from ss (asked.Raced saw)
+      → PlaceSteps g key order first states from until ss (Bypass (Raced saw))
   opens : (way : ℕ) (words : List ℕ) (grant : Grant) (ss ts : List WordStep) (r : Placed) → IsFirstFree states way
-      → AskSteps g order words 0 ss (Got grant)
-      → OpenSteps key (first + way) (block_of grant) ts r → PlaceSteps g key order first states (ss ++ ts) r
+      → AskSteps g order words until from ss (Got grant)
+      → OpenSteps key (first + way) (block_of grant) ts r → PlaceSteps g key order first states from until (ss ++ ts) r
 
 -- ---- the seat made such steps
 
-abbrev pub Asks : Option Files → Geometry → ℕ → ℕ → List ℕ → ℕ → View → View → Asked → Type 0
-Asks files g id order words arena old new r = (ss : List WordStep) × AreMade files g id ss old new × AskSteps g order words arena ss r
+abbrev pub Asks : Option Files → Geometry → ℕ → ℕ → List ℕ → ℕ → ℕ → View → View → Asked → Type 0
+Asks files g id order words until arena old new r =
+    (ss : List WordStep) × AreMade files g id ss old new × AskSteps g order words until arena ss r
 
 abbrev pub Opens : Option Files → Geometry → ℕ → Key → ℕ → Block → View → View → Placed → Type 0
 Opens files g id key header b old new r = (ss : List WordStep) × AreMade files g id ss old new × OpenSteps key header b ss r
 
-abbrev pub Places : Option Files → Geometry → ℕ → Key → ℕ → ℕ → List ℕ → View → View → Placed → Type 0
-Places files g id key order first states old new r = (ss : List WordStep) × AreMade files g id ss old new
-    × PlaceSteps g key order first states ss r
+abbrev pub Places : Option Files → Geometry → ℕ → Key → ℕ → ℕ → List ℕ → ℕ → ℕ → View → View → Placed → Type 0
+Places files g id key order first states from until old new r = (ss : List WordStep) × AreMade files g id ss old new
+    × PlaceSteps g key order first states from until ss r
 
 -- the block that was got is a token of the seat's, of that order
 abbrev pub HoldsAsked : {W : Type 0} → Pool W → PoolSeat W → ℕ → Asked → Type 0

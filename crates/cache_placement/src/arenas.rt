@@ -13,11 +13,11 @@ pub(crate) enum Asked {
     Got(Grant),
     /// Another seat changed the arena's word between the load and the exchange, which found this word.
     Raced(u64),
-    /// No arena has a free block of the order.
+    /// None of the arenas has a free block of the order.
     Full,
 }
 
-/// Asks the arenas from one on, in order, and takes the first block that `find` gives.
+/// Asks the arenas from one on, below number `until`, in order, and takes the first block that `find` gives.
 ///
 /// Each arena's word is loaded once, and put into `words`.
 pub(crate) fn ask<W: World>(
@@ -25,27 +25,28 @@ pub(crate) fn ask<W: World>(
     seat: &mut PoolSeat<W>,
     order: u32,
     arena: u32,
+    until: u32,
     words: &mut [u64],
 ) -> Asked
     requires seat { IsSeatOf pool.now seat.old }
     requires order { order ≤ 6 }
-    requires arena { arena ≤ (sizes_of pool.now).arenas }
+    requires arena { arena ≤ until }
+    requires until { (until ≤ (sizes_of pool.now).arenas) × (until ≤ 64) }
     requires words { length words.old ≡ 64 }
     ensures seat { IsSameSeat pool.now seat.old seat.new }
     ensures token { HoldsAsked pool.now seat.new order result }
     ensures below { (i : ℕ) → i < arena → slice_index words.new i ≡ slice_index words.old i }
-    ensures past { (i : ℕ) → (sizes_of pool.now).arenas ≤ i → slice_index words.new i ≡ slice_index words.old i }
-    ensures made { Asks W.files (sizes_of pool.now) (seat_id seat.old) order words.new arena (view seat.old) (view seat.new) result }
+    ensures past { (i : ℕ) → until ≤ i → slice_index words.new i ≡ slice_index words.old i }
+    ensures made { Asks W.files (sizes_of pool.now) (seat_id seat.old) order words.new until arena (view seat.old) (view seat.new) result }
 {
     buffer_pool::laws::found_blocks_can_be_granted();
-    let geometry = pool.geometry();
-    if arena == geometry.arenas {
+    if arena == until {
         return Asked::Full;
     }
     let word = look(pool, seat, WordName::Arena(arena));
     words[arena as usize] = word;
     match find(word, order) {
-        None => ask(pool, seat, order, arena + 1, words),
+        None => ask(pool, seat, order, arena + 1, until, words),
         Some(offset) => match grant(pool, seat, 64 * arena + offset, order, word) {
             Ok(block) => Asked::Got(block),
             Err(lost) => Asked::Raced(lost.saw),

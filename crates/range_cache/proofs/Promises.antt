@@ -90,10 +90,10 @@ module _ (files : Option Files) (g : Geometry) (id : ℕ) (key : Key) (order : �
       let P : ℕ → Type 0 = λ n. IsMissing key (ss ++ ts) n in
       subst P (sym p.2) (missing_front key (first_way g key + p.0) ss ts (l.tells p.0 p.1).missing)
 
-  room : (words : List ℕ) → HasNoRoom g order ts words → HasNoRoom g order (ss ++ ts) words
+  room : (words : List ℕ) → HasNoRoom g order 0 g.arenas ts words → HasNoRoom g order 0 g.arenas (ss ++ ts) words
   room words r =
       record {
-        last = λ arena lt. ap (last_load arena) (events-append g ss ts) ∙ last_load-back arena (slice_index words arena) (events g ss) (events g ts) (r.last arena lt);
+        last = λ arena le lt. ap (last_load arena) (events-append g ss ts) ∙ last_load-back arena (slice_index words arena) (events g ss) (events g ts) (r.last arena le lt);
         none = r.none;
         past = r.past;
       }
@@ -144,7 +144,7 @@ module _ (files : Option Files) (g : Geometry) (id : ℕ) (key : Key) (order : �
       ) in
       subst P (λ i. (e i, f i)) (subst Q (sym (append-nil ss)) all)
 
-  why_tells : IsOrder g key.len order → (why : Why) → placement.Tells g order (first_way g key) states ts (placed.Bypass why) → Tells g key (ss ++ ts) (Bypass why)
+  why_tells : IsOrder g key.len order → (why : Why) → placement.Tells g order (first_way g key) states 0 g.arenas ts (placed.Bypass why) → Tells g key (ss ++ ts) (Bypass why)
   why_tells is (NoRoom words) t = (nowhere, (order, is, room words t))
   why_tells is (Raced saw) t = (nowhere, raced saw t)
   why_tells is (Busy word) t = absurd t
@@ -192,10 +192,10 @@ module _ (files : Option Files) (g : Geometry) (id : ℕ) (key : Key) (order : �
     no_free : NoneFree states → (way : ℕ) → way < 8 → state_in g words (first_way g key + way) ≢ 8
     no_free none way lt eight = none way lt (are_states way lt ∙ eight)
 
-    no_arena : IsOrder g key.len order → (seen : List ℕ) → HasNoRoom g order ts seen → ((arena : ℕ) → arena < g.arenas → slice_index seen arena ≡ slice_index words arena) → HasNoArena g key words
-    no_arena is seen r same = (order, is, λ arena lt. let P : ℕ → Type 0 = λ n. IsBuddyAnswer 64 n order None in subst P (same arena lt) (r.none arena lt))
+    no_arena : IsOrder g key.len order → (seen : List ℕ) → HasNoRoom g order 0 g.arenas ts seen → ((arena : ℕ) → 0 ≤ arena → arena < g.arenas → slice_index seen arena ≡ slice_index words arena) → HasNoArena g key words
+    no_arena is seen r same = (order, is, λ arena lt. let P : ℕ → Type 0 = λ n. IsBuddyAnswer 64 n order None in subst P (same arena (omega arith) lt) (r.none arena (omega arith) lt))
 
-    exact_why : IsOrder g key.len order → (why : Why) → IsPlacement files g id key order (first_way g key) states ts u w (placed.Bypass why) → IsExact g key words w (Bypass why)
+    exact_why : IsOrder g key.len order → (why : Why) → IsPlacement files g id key order (first_way g key) states 0 g.arenas ts u w (placed.Bypass why) → IsExact g key words w (Bypass why)
     exact_why is (NoRoom seen) p =
         let x = p.exact words (l.exact words known).1 are_states in
         (in_no_way, (x.0.0, free_way x.0.0 x.0.1), no_arena is seen p.tells x.1, x.2)
@@ -204,12 +204,12 @@ module _ (files : Option Files) (g : Geometry) (id : ℕ) (key : Key) (order : �
     exact_why is (SetFull seen) p = (in_no_way, no_free p.tells.0, p.exact words (l.exact words known).1 are_states)
     exact_why is PolicyOut p = p.tells
 
-    exact_filled : IsOrder g key.len order → (pin : Pin) → IsPlacement files g id key order (first_way g key) states ts u w (placed.Filled pin) → IsExact g key words w Filled
+    exact_filled : IsOrder g key.len order → (pin : Pin) → IsPlacement files g id key order (first_way g key) states 0 g.arenas ts u w (placed.Filled pin) → IsExact g key words w Filled
     exact_filled is pin p =
         let x = p.exact words (l.exact words known).1 are_states in
         (in_no_way, (x.0, free_way x.0 x.3), (order, x.1, x.2, is, x.4))
 
-  pub filled : IsOrder g key.len order → (pin : Pin) → IsPlacement files g id key order (first_way g key) states ts u w (placed.Filled pin) → IsFetch files g id key (ss ++ ts) v w (record { how = Filled; evicted = 0; moved = 0; held = grip.Pin pin })
+  pub filled : IsOrder g key.len order → (pin : Pin) → IsPlacement files g id key order (first_way g key) states 0 g.arenas ts u w (placed.Filled pin) → IsFetch files g id key (ss ++ ts) v w (record { how = Filled; evicted = 0; moved = 0; held = grip.Pin pin })
   filled is pin p =
       record {
         right = right_whole ⊥ p.right;
@@ -220,7 +220,7 @@ module _ (files : Option Files) (g : Geometry) (id : ℕ) (key : Key) (order : �
         exact = λ words known. exact_filled words known is pin p;
       }
 
-  pub bypassed : IsOrder g key.len order → (why : Why) → IsPlacement files g id key order (first_way g key) states ts u w (placed.Bypass why) → IsFetch files g id key (ss ++ ts) v w (record { how = Bypass why; evicted = 0; moved = 0; held = grip.Bypass key })
+  pub bypassed : IsOrder g key.len order → (why : Why) → IsPlacement files g id key order (first_way g key) states 0 g.arenas ts u w (placed.Bypass why) → IsFetch files g id key (ss ++ ts) v w (record { how = Bypass why; evicted = 0; moved = 0; held = grip.Bypass key })
   bypassed is why p =
       record {
         right = right_whole ⊥ p.right;

@@ -28,7 +28,7 @@ HasFreeWay g key words = (way : ℕ) × IsFreeWay g key words way
 
 -- the first arena with a free block of the order of the key's length
 abbrev pub HasArena : Geometry → Key → List ℕ → Type 0
-HasArena g key words = (order arena offset : ℕ) × IsOrder g key.len order × IsFirstArena g order words 0 arena offset
+HasArena g key words = (order arena offset : ℕ) × IsOrder g key.len order × IsFirstArena order words 0 g.arenas arena offset
 
 -- no arena has one
 abbrev pub HasNoArena : Geometry → Key → List ℕ → Type 0

@@ -49,7 +49,7 @@ pub record IsSetFull (g : Geometry) (key : Key) (ss : List WordStep) (states : L
 
 -- the last loads of the arenas' words show no free block of the order of the key's length
 abbrev pub IsNoRoom : Geometry → Key → List WordStep → List ℕ → Type 0
-IsNoRoom g key ss words = (order : ℕ) × IsOrder g key.len order × HasNoRoom g order ss words
+IsNoRoom g key ss words = (order : ℕ) × IsOrder g key.len order × HasNoRoom g order 0 g.arenas ss words
 
 -- The exchange on a way's state gave this word, not that of a released header without a count, which the first load of the state
 -- had shown.

@@ -64,7 +64,17 @@ pub fn fetch<W: World, S: Store<W>>(
         Found::Missing => {
             store.read_at(file, key.at, scratch)?;
             let order = order_for(key.len, geometry.min_block);
-            match place(&cache.pool, seat, key, order, first, states, scratch) {
+            match place(
+                &cache.pool,
+                seat,
+                key,
+                order,
+                first,
+                states,
+                0,
+                geometry.arenas,
+                scratch,
+            ) {
                 Placed::Filled(pin) => Ok(Ranged::pinned(How::Filled, pin)),
                 Placed::Bypass(why) => Ok(Ranged::bypassed(why, key)),
             }

@@ -16,8 +16,8 @@ use Rattle.cache_placement.specs.Steps.{Asks, Opens, Places, arena_raced, no_roo
 use Rattle.cache_placement.proofs.placing.place_by_steps.Goals as goal
 
 -- a block that was got, and what comes then
-then_opens : (files : Option Files) (g : Geometry) (id id' : ℕ) (key : Key) (order first way : ℕ) (states words : List ℕ) (grant : Grant) (v u w : View) (r : Placed) → id' ≡ id → IsFirstFree states way → Asks files g id order words 0 v u (Got grant) → Opens files g id' key (first + way) (block_of grant) u w r → Places files g id key order first states v w r
-then_opens files g id id' key order first way states words grant v u w r same is a o =
+then_opens : (files : Option Files) (g : Geometry) (id id' : ℕ) (key : Key) (order first way : ℕ) (states : List ℕ) (from until : ℕ) (words : List ℕ) (grant : Grant) (v u w : View) (r : Placed) → id' ≡ id → IsFirstFree states way → Asks files g id order words until from v u (Got grant) → Opens files g id' key (first + way) (block_of grant) u w r → Places files g id key order first states from until v w r
+then_opens files g id id' key order first way states from until words grant v u w r same is a o =
     let P : ℕ → Type 0 = λ n. AreMade files g n o.0 u w in
     (_, all_then files g id a.0 o.0 v u w a.1 (subst P same o.1), opens way words grant a.0 o.0 r is a.2 o.2)
 
@@ -41,4 +41,4 @@ returns-in-Raced-clause-made g c =
 
 pub returns-in-Got-clause-made : goal.returns-in-Got-clause-made
 returns-in-Got-clause-made g c =
-    then_opens g.W.World.files (sizes_of c.args.pool.now) _ _ c.args.key c.args.order c.args.first c.in-Some.way _ _ c.in-Got.grant _ _ _ _ c.ask.ensures.seat.same c.in-Some.ensures c.in-Got.ensures.made c.open_with.ensures.made
+    then_opens g.W.World.files (sizes_of c.args.pool.now) _ _ c.args.key c.args.order c.args.first c.in-Some.way _ c.args.from c.args.until _ c.in-Got.grant _ _ _ _ c.ask.ensures.seat.same c.in-Some.ensures c.in-Got.ensures.made c.open_with.ensures.made

@@ -32,19 +32,20 @@ order_is g g' len order e fits room least =
     subst P e (record { fits = least 6 (omega (arith, fits')); room = room; least = least })
 
 -- a placement by the seat as it was after the look-up, in the key's set
-placement_at : (files : Option Files) (g g' : Geometry) (id id' : ℕ) (key : Key) (order first : ℕ) (states : List ℕ) (u w : View) (r : Placed) → id' ≡ id → first ≡ first_way g' key → g' ≡ g → (ts : List WordStep) × IsPlacement files g id' key order first states ts u w r → (ts : List WordStep) × IsPlacement files g id key order (first_way g key) states ts u w r
+placement_at : (files : Option Files) (g g' : Geometry) (id id' : ℕ) (key : Key) (order first : ℕ) (states : List ℕ) (u w : View) (r : Placed) → id' ≡ id → first ≡ first_way g' key → g' ≡ g → (ts : List WordStep) × IsPlacement files g id' key order first states 0 g'.arenas ts u w r → (ts : List WordStep) × IsPlacement files g id key order (first_way g key) states 0 g.arenas ts u w r
 placement_at files g g' id id' key order first states u w r e f k p =
-    let P : ℕ × ℕ → Type 0 = λ z. IsPlacement files g z.0 key order z.1 states p.0 u w r in
+    let P : ℕ × ℕ × ℕ → Type 0 = λ z. IsPlacement files g z.0 key order z.1 states 0 z.2 p.0 u w r in
     let at : first ≡ first_way g key = f ∙ ap (λ x. first_way x key) k in
-    (p.0, subst P (λ i. (e i, at i)) p.1)
+    let all : g'.arenas ≡ g.arenas = ap (λ (x : Geometry). x.arenas) k in
+    (p.0, subst P (λ i. (e i, at i, all i)) p.1)
 
 as_range : (files : Option Files) (g : Geometry) (id : ℕ) (key : Key) (v w : View) (r s : Ranged) → r ≡ s → (ss : List WordStep) × IsFetch files g id key ss v w s → (ss : List WordStep) × IsFetch files g id key ss v w r
 as_range files g id key v w r s e f = let P : Ranged → Type 0 = λ x. IsFetch files g id key f.0 v w x in (f.0, subst P (sym e) f.1)
 
-then_filled : (files : Option Files) (g : Geometry) (id : ℕ) (key : Key) (order : ℕ) (states : List ℕ) (v u w : View) (pin : Pin) → IsOrder g key.len order → ((ss : List WordStep) × IsLookUp files g id key ss states v u found.Missing) → ((ts : List WordStep) × IsPlacement files g id key order (first_way g key) states ts u w (placed.Filled pin)) → (ss : List WordStep) × IsFetch files g id key ss v w (record { how = Filled; evicted = 0; moved = 0; held = grip.Pin pin })
+then_filled : (files : Option Files) (g : Geometry) (id : ℕ) (key : Key) (order : ℕ) (states : List ℕ) (v u w : View) (pin : Pin) → IsOrder g key.len order → ((ss : List WordStep) × IsLookUp files g id key ss states v u found.Missing) → ((ts : List WordStep) × IsPlacement files g id key order (first_way g key) states 0 g.arenas ts u w (placed.Filled pin)) → (ss : List WordStep) × IsFetch files g id key ss v w (record { how = Filled; evicted = 0; moved = 0; held = grip.Pin pin })
 then_filled files g id key order states v u w pin is l p = (l.0 ++ p.0, filled files g id key order states l.0 p.0 v u w l.1 is pin p.1)
 
-then_bypassed : (files : Option Files) (g : Geometry) (id : ℕ) (key : Key) (order : ℕ) (states : List ℕ) (v u w : View) (why : Why) → IsOrder g key.len order → ((ss : List WordStep) × IsLookUp files g id key ss states v u found.Missing) → ((ts : List WordStep) × IsPlacement files g id key order (first_way g key) states ts u w (placed.Bypass why)) → (ss : List WordStep) × IsFetch files g id key ss v w (record { how = Bypass why; evicted = 0; moved = 0; held = grip.Bypass key })
+then_bypassed : (files : Option Files) (g : Geometry) (id : ℕ) (key : Key) (order : ℕ) (states : List ℕ) (v u w : View) (why : Why) → IsOrder g key.len order → ((ss : List WordStep) × IsLookUp files g id key ss states v u found.Missing) → ((ts : List WordStep) × IsPlacement files g id key order (first_way g key) states 0 g.arenas ts u w (placed.Bypass why)) → (ss : List WordStep) × IsFetch files g id key ss v w (record { how = Bypass why; evicted = 0; moved = 0; held = grip.Bypass key })
 then_bypassed files g id key order states v u w why is l p = (l.0 ++ p.0, bypassed files g id key order states l.0 p.0 v u w l.1 is why p.1)
 
 pub place-requires-clause-order : goal.place-requires-clause-order
