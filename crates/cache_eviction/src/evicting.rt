@@ -1,9 +1,9 @@
 //! One header's buffer is evicted.
 
-ghost use Rattle.std.specs.Prelude.{◌≡◌, ◌<◌, ℕ};
+ghost use Rattle.std.specs.Prelude.{◌≡◌, ◌<◌, ℕ, IfOk};
 ghost use Rattle.pool_rule.specs.Layout.{headers_of};
 ghost use Rattle.pool_rule.specs.Seats.{granted_at, mark_at};
-ghost use Rattle.buffer_pool.specs.Pools.{IsSameSeat, IsSeatOf, seat_id, sizes_of, view};
+ghost use Rattle.buffer_pool.specs.Pools.{IsBlockOf, IsSameSeat, IsSeatOf, seat_id, sizes_of, view};
 ghost use Rattle.cache_eviction.specs.Evictions.{Tries};
 
 use buffer_pool::{Held, Pool, PoolSeat, begin_evict, release, ungrant};
@@ -18,6 +18,7 @@ pub fn evict<W: World>(pool: &Pool<W>, seat: &mut PoolSeat<W>, header: u32) -> R
     requires seat { IsSeatOf pool.now seat.old }
     requires header { header < headers_of (sizes_of pool.now) }
     ensures seat { IsSameSeat pool.now seat.old seat.new }
+    ensures block { IfOk result (λ b. IsBlockOf pool.now b) }
     ensures tries { Tries W.files (sizes_of pool.now) (seat_id seat.old) header (view seat.old) (view seat.new) result }
     ensures marks { (other : ℕ) → mark_at (view seat.new) other ≡ mark_at (view seat.old) other }
     ensures grants { (place : ℕ) → granted_at (view seat.new) place ≡ granted_at (view seat.old) place }

@@ -1,0 +1,34 @@
+use Rattle.std.proofs.Common.{◌≡◌, ◌+◌, ◌<◌, true, length, refl, sym, ◌∙◌, arith}
+use Rattle.std.specs.Prelude.{slice_set}
+use Rattle.std.proofs.lemmas.List.{length-set}
+use Rattle.buffer_pool.specs.Pools.{seat_id, sizes_of, view}
+use Rattle.cache_room.proofs.Trials.{marked_here, marked_more, set_tried, way_gone, way_held}
+use Rattle.cache_room.proofs.ways.other_way.Goals as goal
+
+pub returns-in-Ok-clause-frees : goal.returns-in-Ok-clause-frees
+returns-in-Ok-clause-frees g c key start h =
+    let k = c.loop-way.invariant in
+    way_gone g.W.World.files (sizes_of c.args.pool.now) (seat_id c.args.seat.now) key c.args.first c.requires.set start c.loop-way.seen c.loop-way.tried k.seen_len k.tried_len (seat_id c.loop-way.seat) k.same (c.args.first + c.loop-way.way) c.loop-way.way
+    refl (omega arith) (view c.loop-way.seat) (view c.try_header.new.seat) (k.left key start h) c.try_header.ensures.marks c.try_header.ensures.grants c.in-Ok.field-0 c.in-Ok.ensures.tries
+
+pub returns-clause-frees : goal.returns-clause-frees
+returns-clause-frees g c key start h =
+    let k = c.loop-way.invariant in
+    set_tried g.W.World.files (sizes_of c.args.pool.now) (seat_id c.args.seat.now) key c.args.first start c.loop-way.seen c.loop-way.tried (view c.loop-way.seat) (k.left key start h) (λ way lt. k.done way (omega (arith, lt)))
+
+pub loop-way-preserved : goal.loop-way-preserved
+loop-way-preserved g c =
+    let k = c.loop-way.invariant in
+    let more = c.try_header.ensures in
+    let len = k.tried_len in
+    record {
+      of_pool = more.seat.of_pool;
+      same = more.seat.same ∙ k.same;
+      entries = more.entries ∙ k.entries;
+      seen_len = length-set c.loop-way.seen c.loop-way.way c.in-Err.held.word ∙ k.seen_len;
+      tried_len = length-set c.loop-way.tried c.loop-way.way true ∙ len;
+      done = marked_more c.loop-way.tried c.loop-way.way (omega (arith, len)) k.done;
+      left = λ key start h.
+          way_held g.W.World.files (sizes_of c.args.pool.now) (seat_id c.args.seat.now) key c.args.first c.requires.set start c.loop-way.seen c.loop-way.tried k.seen_len k.tried_len (seat_id c.loop-way.seat) k.same (c.args.first + c.loop-way.way) c.loop-way.way
+          refl (omega arith) (view c.loop-way.seat) (view c.try_header.new.seat) (k.left key start h) more.marks more.grants c.in-Err.held c.in-Err.ensures.tries;
+    }

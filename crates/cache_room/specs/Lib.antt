@@ -1,0 +1,4 @@
+pub mod Tried
+pub mod TriedLaws
+pub mod Quiet
+pub mod Rooms
