@@ -29,10 +29,10 @@ use Rattle.cache_placement.specs.declared.why.Placed.TheVariants.{Filled, Bypass
 use Rattle.cache_placement.specs.declared.why.Why.TheVariants.{NoRoom, Raced, Busy, SetFull, PolicyOut}
 use Rattle.cache_placement.specs.Placements.{IsFilled, IsLost, IsPlacement}
 use Rattle.cache_room.specs.declared.wanted.Wanted.{Wanted}
-use Rattle.cache_room.specs.Quiet.{AreKnown, IsQuiet, consult_releases, consult_touches, quiet_consult, quiet_held, quiet_out, quiet_then}
+use Rattle.cache_room.specs.Quiet.{AreKnown, IsQuiet, consult_releases, consult_touches, quiet_consult, quiet_held, quiet_none, quiet_out, quiet_then}
 use Rattle.cache_room.specs.Rooms.{HeadersTried, IfNoRoom, IsSetTried, IsWayFreed, MakesRoom, RoomLeft, WaysTried, counted, unless_full}
 use Rattle.cache_room.specs.Tried.{HasEnd, IsTried, last_saw, releases}
-use Rattle.cache_room.specs.TriedLaws.{held_end, held_releases, no_releases, out_end, out_released, out_releases, releases-append, saw_away, saw_here, touch_front, tried_front, tried_over}
+use Rattle.cache_room.specs.TriedLaws.{held_end, held_releases, no_releases, out_end, out_released, out_releases, releases-append, saw_away, saw_here, touch_front, tried_back, tried_front, tried_over}
 
 abbrev pub SameMarks : View → View → Type 0
 SameMarks v w = (other : ℕ) → mark_at w other ≡ mark_at v other
@@ -264,3 +264,60 @@ walks_on falls forgets p q after r least lt len is =
     ] in
     let P : ℕ → Type 0 = λ m. above_count q.entries (Some r) m < above_count p.entries after n in
     subst P (sym len) (omega (arith, down, here))
+
+-- ---- a placement, and room that is made after it
+
+module _ (files : Option Files) (g : Geometry) (id : ℕ) (wanted : Wanted) (from until : ℕ) (us : List WordStep) (v w : View) where
+  placed_at_once : (placed : Placed) → IsPlacement files g id wanted.key wanted.order wanted.first wanted.states from until us v w placed → ((P : Type 0) → IfNoRoom placed P) → MakesRoom files g id wanted v w 0 placed
+  placed_at_once placed p free =
+      record { ss = []; ts = us; mid = v; from = from; until = until; quiet = quiet_none files g id wanted.key v; places = p; count = refl; tried = free _ }
+
+  not_full : (x : Placed) → Some x ≢ None
+  not_full x e = let clash : ⊥ = cc in clash
+
+  pub at_once : (placed answer : Placed) → unless_full placed ≡ Some answer → IsPlacement files g id wanted.key wanted.order wanted.first wanted.states from until us v w placed → MakesRoom files g id wanted v w 0 answer
+  at_once (Filled pin) answer e p = let same : Filled pin ≡ answer = cc in let P : Placed → Type 0 = λ x. MakesRoom files g id wanted v w 0 x in subst P same (placed_at_once (Filled pin) p (λ Q. tt))
+  at_once (Bypass (NoRoom words)) answer e p = absurd (not_full answer (sym e))
+  at_once (Bypass (Raced saw)) answer e p = let same : Bypass (Raced saw) ≡ answer = cc in let P : Placed → Type 0 = λ x. MakesRoom files g id wanted v w 0 x in subst P same (placed_at_once (Bypass (Raced saw)) p (λ Q. tt))
+  at_once (Bypass (Busy word)) answer e p = let same : Bypass (Busy word) ≡ answer = cc in let P : Placed → Type 0 = λ x. MakesRoom files g id wanted v w 0 x in subst P same (placed_at_once (Bypass (Busy word)) p (λ Q. tt))
+  at_once (Bypass (SetFull states)) answer e p = let same : Bypass (SetFull states) ≡ answer = cc in let P : Placed → Type 0 = λ x. MakesRoom files g id wanted v w 0 x in subst P same (placed_at_once (Bypass (SetFull states)) p (λ Q. tt))
+  at_once (Bypass PolicyOut) answer e p = let same : Bypass PolicyOut ≡ answer = cc in let P : Placed → Type 0 = λ x. MakesRoom files g id wanted v w 0 x in subst P same (placed_at_once (Bypass PolicyOut) p (λ Q. tt))
+
+  no_room_grants : (words : List ℕ) → IsFilled (Bypass (NoRoom words)) ⊎ IsLost us (Bypass (NoRoom words)) → ⊥
+  no_room_grants words h = elim h [ inl not ↦ not | inr lost ↦ (let e : Bypass (NoRoom words) ≡ Bypass (Raced lost.1) = lost.2 in let clash : ⊥ = cc in clash) ]
+
+  -- a placement that found no room left the seat what it had
+  pub quiet_full : (placed : Placed) → unless_full placed ≡ None → IsPlacement files g id wanted.key wanted.order wanted.first wanted.states from until us v w placed → IsQuiet files g id wanted.key v us w
+  quiet_full (Filled pin) e p = absurd (not_full (Filled pin) e)
+  quiet_full (Bypass (NoRoom words)) e p = record { right = p.right; before = p.leaves; ungranted = λ x f there. no_room_grants words (p.granted x f there); unopened = p.opened }
+  quiet_full (Bypass (Raced saw)) e p = absurd (not_full (Bypass (Raced saw)) e)
+  quiet_full (Bypass (Busy word)) e p = absurd (not_full (Bypass (Busy word)) e)
+  quiet_full (Bypass (SetFull states)) e p = absurd (not_full (Bypass (SetFull states)) e)
+  quiet_full (Bypass PolicyOut) e p = absurd (not_full (Bypass PolicyOut) e)
+
+no_room_maps : (r : Placed) (P Q : Type 0) → (P → Q) → IfNoRoom r P → IfNoRoom r Q
+no_room_maps (Filled pin) P Q f h = tt
+no_room_maps (Bypass (NoRoom words)) P Q f h = f h
+no_room_maps (Bypass (Raced saw)) P Q f h = tt
+no_room_maps (Bypass (Busy word)) P Q f h = tt
+no_room_maps (Bypass (SetFull states)) P Q f h = tt
+no_room_maps (Bypass PolicyOut) P Q f h = tt
+
+-- room that is made behind quiet steps that released nothing
+pub made_behind : (files : Option Files) (g : Geometry) (id id' : ℕ) (wanted : Wanted) (v u w : View) (xs : List WordStep) (evicted : ℕ) (placed : Placed) → id' ≡ id → IsQuiet files g id wanted.key v xs u → releases xs ≡ 0 → MakesRoom files g id' wanted u w evicted placed → MakesRoom files g id wanted v w evicted placed
+made_behind files g id id' wanted v u w xs evicted placed same q none m' =
+    let M : ℕ → Type 0 = λ n. MakesRoom files g n wanted u w evicted placed in
+    let m = subst M same m' in
+    let sum = releases-append xs m.ss in
+    let count = m.count in
+    record {
+      ss = xs ++ m.ss;
+      ts = m.ts;
+      mid = m.mid;
+      from = m.from;
+      until = m.until;
+      quiet = quiet_then files g id wanted.key v u m.mid xs m.ss q m.quiet;
+      places = m.places;
+      count = omega (arith, sum, none, count);
+      tried = no_room_maps placed _ _ (λ h. (h.0, h.1, λ header lt. tried_back header xs m.ss (h.2 header lt))) m.tried;
+    }

@@ -72,6 +72,9 @@ are_known key v h header = known_of key (mark_at v header).hold (h header)
 pub no_pin_later : (key : BufferKey) (v w : View) → HasNoPinOf key v → IsAsBefore v w → HasNoPinOf key w
 no_pin_later key v w none c header = let P : Hold → Type 0 = λ x. IsNoPinOf key x in subst P (sym (c.holds header)) (none header)
 
+pub known_later : (v w : View) → AreKnown v → IsAsBefore v w → AreKnown w
+known_later v w known c header = let P : Hold → Type 0 = λ x. IsKnownHold x in subst P (sym (c.holds header)) (known header)
+
 known_stays : (key : BufferKey) (x : Hold) → IsKnownHold x → hold_with_key key x ≡ x
 known_stays key Free h = refl
 known_stays key Bid h = refl
@@ -340,4 +343,4 @@ module _ (files : Option Files) (g : Geometry) (id : ℕ) (key : Key) (start : V
         unopened = λ header b cells there. learns_none (Opened header b cells) (λ s is e. learn_opens s header b cells is e) ss are there;
       }
 
-pub ruleset quiet = (are_known, no_pin_later, quiet_none, quiet_then, quiet_updated, quiet_held, quiet_out, quiet_consult, consult_releases, consult_touches)
+pub ruleset quiet = (are_known, known_later, no_pin_later, quiet_none, quiet_then, quiet_updated, quiet_held, quiet_out, quiet_consult, consult_releases, consult_touches)

@@ -1,5 +1,5 @@
 -- What is tried to make room for a range, and what comes of it. Source: this project's own.
-use Rattle.std.specs.Prelude.{◌≡◌, ℕ, ◌+◌, ◌-◌, ◌^◌, ◌<◌, ◌≤◌, min, Bool, true, false, List, length, Option, None, Some, slice_index, slice_index_or}
+use Rattle.std.specs.Prelude.{◌≡◌, ℕ, ◌+◌, ◌-◌, ◌^◌, ◌<◌, ◌≤◌, min, Bool, true, false, List, length, Option, None, Some, slice_index, slice_index_or, slice_set}
 use Rattle.buffer_word.specs.declared.key_word.Key.{Key}
 use Rattle.buffer_word.specs.KeyWord.{IsKey}
 use Rattle.pool_model.specs.declared.block.Block.{Block}
@@ -14,7 +14,7 @@ use Rattle.cache_lookup.specs.Trails.{Among, events}
 use Rattle.cache_placement.specs.declared.why.Placed.{Placed}
 use Rattle.cache_placement.specs.declared.why.Placed.TheVariants.{Filled, Bypass}
 use Rattle.cache_placement.specs.declared.why.Why.TheVariants.{NoRoom, Raced, Busy, SetFull, PolicyOut}
-use Rattle.cache_placement.specs.Free.{IsOrder}
+use Rattle.cache_placement.specs.Free.{IsFirstFree, IsOrder, NoneFree}
 use Rattle.cache_placement.specs.Placements.{IsPlacement}
 use Rattle.cache_room.specs.declared.wanted.Wanted.{Wanted}
 use Rattle.cache_room.specs.Quiet.{IsQuiet}
@@ -121,3 +121,20 @@ pub record IsWanted (files : Option Files) (g : Geometry) (wanted : Wanted) (byt
   pub range : IsRange files (buffer_key wanted.key)
   pub len : length bytes ≡ wanted.key.len
   pub content : IsContentOf files (buffer_key wanted.key) bytes
+
+-- ---- a way, and then a block
+
+-- with a way that was freed
+abbrev pub with_freed : ℕ → Wanted → Wanted
+with_freed way wanted = record { key = wanted.key; order = wanted.order; first = wanted.first; states = slice_set wanted.states way 8 }
+
+-- A way of the set was seen free, and the range was placed there. Or none was: then a way was freed first; or none could be, and the set
+-- is full.
+pub data IsRoom (files : Option Files) (g : Geometry) (id : ℕ) (wanted : Wanted) (old new : View) (evicted : ℕ) : Placed → Type 0 where
+  in_free : (way : ℕ) (placed : Placed) → IsFirstFree wanted.states way → MakesRoom files g id wanted old new evicted placed
+      → IsRoom files g id wanted old new evicted placed
+  in_freed : (way more : ℕ) (mid : View) (placed : Placed) → NoneFree wanted.states → IsWayFreed files g id wanted.key wanted.first old way mid
+      → MakesRoom files g id (with_freed way wanted) mid new more placed → evicted ≡ min (more + 1) (2 ^ 32 - 1)
+      → IsRoom files g id wanted old new evicted placed
+  in_none : (seen : List ℕ) → NoneFree wanted.states → IsSetTried files g id wanted.key wanted.first old seen new → evicted ≡ 0
+      → IsRoom files g id wanted old new evicted (Bypass (SetFull seen))

@@ -24,7 +24,7 @@ pub struct Room {
 }
 
 /// The answer of a placement, but for want of room.
-fn unless_full(placed: Placed) -> Option<Placed>
+pub(crate) fn unless_full(placed: Placed) -> Option<Placed>
     ensures { result ≡ unless_full placed }
 {
     match placed {
@@ -157,7 +157,7 @@ fn place_for_others<W: World>(
 ///
 /// `tried` has a flag for each header, of any value. The policy has as many headers as the pool, and the keys of the seat's pins are
 /// known. Each header of the pool costs a step or a few. It takes no memory and waits for nobody.
-pub fn place_evicting<W: World>(
+pub(crate) fn place_evicting<W: World>(
     pool: &Pool<W>,
     seat: &mut PoolSeat<W>,
     policy: &mut Policy,

@@ -1,0 +1,28 @@
+use Rattle.std.proofs.Common.{ℕ, refl, subst}
+use Rattle.buffer_pool.specs.Pools.{seat_id, sizes_of, view}
+use Rattle.cache_room.specs.declared.wanted.Wanted.{Wanted}
+use Rattle.cache_room.specs.Quiet.{known_later}
+use Rattle.cache_room.specs.Rooms.{MakesRoom, in_free, in_freed, in_none, with_freed}
+use Rattle.cache_room.proofs.placing.place_or_evict.Goals as goal
+
+pub returns-in-Some-clause-room : goal.returns-in-Some-clause-room
+returns-in-Some-clause-room g c = in_free c.in-Some.field-0 c.place_in_free.result.placed c.in-Some.ensures c.place_in_free.ensures.makes
+
+pub with_freed-wanted-requires : goal.with_freed-wanted-requires
+with_freed-wanted-requires g c = (c.in-Some-free_way.ensures.frees c.args.wanted.key).inside
+
+pub place_in_free-placed-requires-clause-known : goal.place_in_free-placed-requires-clause-known
+place_in_free-placed-requires-clause-known g c =
+    known_later (view c.args.seat.now) (view c.free_way.new.seat) c.requires.known (c.in-Some-free_way.ensures.frees c.args.wanted.key).quiet.before
+
+pub returns-in-Some-free_way-clause-room : goal.returns-in-Some-free_way-clause-room
+returns-in-Some-free_way-clause-room g c =
+    let m = c.place_in_free-placed.ensures.makes in
+    let r = c.place_in_free-placed.result in
+    let P : ℕ × Wanted → Type 0 = λ z. MakesRoom g.W.World.files (sizes_of c.args.pool.now) z.0 z.1 (view c.free_way.new.seat) (view c.place_in_free-placed.new.seat) r.evicted r.placed in
+    let e = c.free_way.ensures.seat.same in
+    let f = c.with_freed-wanted.ensures in
+    in_freed c.in-Some-free_way.way r.evicted (view c.free_way.new.seat) r.placed c.in-None.ensures (c.in-Some-free_way.ensures.frees c.args.wanted.key) (subst P (λ i. (e i, f i)) m) c.saturating_add-evicted.ensures
+
+pub returns-in-None-free_way-clause-room : goal.returns-in-None-free_way-clause-room
+returns-in-None-free_way-clause-room g c = in_none c.free_way.new.seen c.in-None.ensures (c.in-None-free_way.ensures.frees c.args.wanted.key) refl
