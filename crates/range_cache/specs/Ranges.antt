@@ -16,6 +16,10 @@ use Rattle.range_cache.specs.declared.ranged.How.{How}
 use Rattle.range_cache.specs.declared.ranged.How.TheVariants.{Hit, Filled, Bypass}
 use Rattle.range_cache.specs.declared.ranged.Ranged.{Ranged}
 
+-- a range that was got like that, for which so many buffers were evicted and none was moved
+abbrev pub ranged_by : How → ℕ → Grip → Ranged
+ranged_by how evicted held = record { how = how; evicted = evicted; moved = 0; held = held }
+
 -- the key of the range
 abbrev pub key_of_grip : Grip → Key
 key_of_grip (grip.Pin pin) = pin_key pin

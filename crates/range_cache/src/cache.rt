@@ -11,7 +11,7 @@ use std::alloc::Global;
 #[derive(Drop)]
 pub struct Cache<W: World> {
     pub(crate) pool: Pool<W>,
-    /// The ticks after which a touch counts half. No step uses it yet.
+    /// The ticks after which a touch counts half.
     pub(crate) half_life: u64,
 }
 
@@ -43,6 +43,13 @@ impl<W: World> Cache<W> {
             Ok((pool, seat)) => Ok((Cache { pool, half_life }, seat)),
             Err(fault) => Err(fault),
         }
+    }
+
+    /// After how many ticks a touch counts half; 0 where it always counts whole.
+    pub fn half_life(&self) -> u64
+        ensures { result ≡ half_life_of self.now }
+    {
+        self.half_life
     }
 
     /// The cache's pool, for those who make single steps on it.

@@ -56,10 +56,10 @@ pub fn fetch<W: World, S: Store<W>>(
     let first = first_header(geometry, key);
     let mut states = [0; 8];
     match look_up(&cache.pool, seat, key, first, &mut states) {
-        Found::Hit(pin) => Ok(Ranged::pinned(How::Hit, pin)),
+        Found::Hit(pin) => Ok(Ranged::pinned(How::Hit, pin, 0)),
         Found::Busy(word) => {
             store.read_at(file, key.at, scratch)?;
-            Ok(Ranged::bypassed(Why::Busy { word }, key))
+            Ok(Ranged::bypassed(Why::Busy { word }, key, 0))
         }
         Found::Missing => {
             store.read_at(file, key.at, scratch)?;
@@ -75,8 +75,8 @@ pub fn fetch<W: World, S: Store<W>>(
                 geometry.arenas,
                 scratch,
             ) {
-                Placed::Filled(pin) => Ok(Ranged::pinned(How::Filled, pin)),
-                Placed::Bypass(why) => Ok(Ranged::bypassed(why, key)),
+                Placed::Filled(pin) => Ok(Ranged::pinned(How::Filled, pin, 0)),
+                Placed::Bypass(why) => Ok(Ranged::bypassed(why, key, 0)),
             }
         }
     }

@@ -28,7 +28,7 @@ pub(crate) enum Grip {
 pub struct Ranged {
     /// How it was got.
     pub how: How,
-    /// How many buffers were evicted for it. None is yet.
+    /// How many buffers were evicted for it.
     pub evicted: u32,
     /// How many buffers were moved for it. None is yet.
     pub moved: u32,
@@ -42,27 +42,27 @@ impl Ranged {
     ghost use Rattle.cache_lookup.specs.Before.{IsAsBefore};
     ghost use Rattle.range_cache.specs.declared.ranged.Grip.TheVariants as grip;
     ghost use Rattle.range_cache.specs.Caches.{pool_of};
-    ghost use Rattle.range_cache.specs.Ranges.{IsDone, IsRanged, IsReadable, IsReading, Leaves, range_key};
+    ghost use Rattle.range_cache.specs.Ranges.{IsDone, IsRanged, IsReadable, IsReading, Leaves, range_key, ranged_by};
 
-    /// A range that is held by a pin.
-    pub(crate) fn pinned(how: How, pin: Pin) -> Ranged
-        ensures { result ≡ record { how = how; evicted = 0; moved = 0; held = grip.Pin pin } }
+    /// A range that is held by a pin, for which so many buffers were evicted. For those who fetch.
+    pub fn pinned(how: How, pin: Pin, evicted: u32) -> Ranged
+        ensures { result ≡ ranged_by how evicted (grip.Pin pin) }
     {
         Ranged {
             how,
-            evicted: 0,
+            evicted,
             moved: 0,
             held: Grip::Pin(pin),
         }
     }
 
-    /// A range that was read past the cache.
-    pub(crate) fn bypassed(why: Why, key: Key) -> Ranged
-        ensures { result ≡ record { how = How.Bypass why; evicted = 0; moved = 0; held = grip.Bypass key } }
+    /// A range that was read past the cache, for which so many buffers were evicted. For those who fetch.
+    pub fn bypassed(why: Why, key: Key, evicted: u32) -> Ranged
+        ensures { result ≡ ranged_by (How.Bypass why) evicted (grip.Bypass key) }
     {
         Ranged {
             how: How::Bypass(why),
-            evicted: 0,
+            evicted,
             moved: 0,
             held: Grip::Bypass(key),
         }

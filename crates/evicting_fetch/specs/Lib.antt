@@ -1,0 +1,2 @@
+pub mod Evictors
+pub mod Fetches
