@@ -1,0 +1,11 @@
+//! The tests of fetches that evict, over public calls alone.
+#![tactic(auto)]
+
+#[cfg(test)]
+mod fetches;
+#[cfg(test)]
+mod pattern;
+#[cfg(test)]
+mod plain;
+#[cfg(test)]
+mod random;
