@@ -1,0 +1,12 @@
+use Rattle.std.proofs.Common.{◌-◌, ◌<◌, ◌≤◌, length}
+use Rattle.rle_writer.proofs.byte_stream.literal_len.Given as goal
+
+abbrev pub invariant-loop-len : goal.invariant-loop-len
+invariant-loop-len l = record {
+  some : 0 < l.len;
+  within : l.len ≤ length l.bytes;
+  most : l.len ≤ 128;
+}
+
+abbrev pub decreases-loop-len : goal.decreases-loop-len
+decreases-loop-len l = length l.bytes - l.len

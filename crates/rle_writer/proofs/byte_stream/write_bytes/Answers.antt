@@ -1,0 +1,18 @@
+use Rattle.std.proofs.Common.{arith}
+use Rattle.rle_writer.proofs.byte_stream.write_bytes.Goals as goal
+use Rattle.orc_rle.specs.ByteRun.{ByteRun}
+use Rattle.rle_writer.specs.WrittenLaws.{Written-none, Written-step, Written-all}
+
+pub loop-at-init : goal.loop-at-init
+loop-at-init c = record { within = omega arith; written = rw c.new-stream.ensures.items (Written-none ByteRun) }
+
+pub loop-at-preserved : goal.loop-at-preserved
+loop-at-preserved c =
+    let l = c.loop-at in
+    let step = Written-step ByteRun l.stream.items c.put_run.new.out.items c.args.bytes.now l.at c.in_ok-at.field-0 l.invariant.within l.invariant.written c.in_ok-at.ensures in
+    record { within = step.0; written = step.1 }
+
+pub returns : goal.returns
+returns c =
+    let l = c.loop-at in
+    Written-all ByteRun l.stream.items c.args.bytes.now l.at l.invariant.within c.loop-at-test.false l.invariant.written
