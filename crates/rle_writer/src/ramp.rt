@@ -24,7 +24,8 @@ pub fn ramp_len(values: &[i64], step: u64, most: usize) -> usize
     ensures within { result ≤ length values.now }
     ensures most { result ≤ most }
     ensures stops { result < length values.now → result < most →
-        slice_index_or values.now result (pos 0) ≢ wrapped_sum (slice_index_or values.now 0 (pos 0)) (pos result *ℤ cast_signed w64 step) }
+        slice_index_or values.now result (pos 0)
+        ≢ wrapped_sum (slice_index_or values.now 0 (pos 0)) (pos result *ℤ cast_signed w64 step) }
     ensures ramp { take result values.now ≡ ramp (slice_index_or values.now 0 (pos 0)) (cast_signed w64 step) result }
 {
     let mut next = bits_of_value(&values[0]);
