@@ -13,5 +13,5 @@ pub use adding::{put, put_varint};
 pub use bit_stream::write_bits;
 pub use byte_stream::write_bytes;
 pub use int_stream1::write_integers1;
-pub use number::{bits_of_value, number_of};
+pub use number::{bits_of_value, number_of, number_of_bits};
 pub use ramp::{first_step, ramp_len};

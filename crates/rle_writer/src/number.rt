@@ -20,8 +20,8 @@ pub fn bits_of_value(value: &i64) -> u64
     value.cast_unsigned()
 }
 
-/// The same, of a value that is given as its 64 bits.
-fn number_of_bits(signed: bool, bits: u64) -> u64
+/// The number that stands for a value, which is given as its 64 bits, as `number_of` says.
+pub fn number_of_bits(signed: bool, bits: u64) -> u64
     ensures { integer signed result ≡ cast_signed w64 bits }
 {
     if !signed {
