@@ -29,19 +29,28 @@ fn begins_ramp(signed: bool, values: &[i64]) -> bool {
     }
     let step = first_step(values);
     let len = ramp_len(values, step, MOST);
-    len >= 3 && is_worth(signed, &values[..len], step)
+    len >= 3 && is_worth(signed, &values[..len], step, front_of(&values[len..]), 0)
 }
 
-/// Whether values of equal steps take fewer bytes as a run of their own than among others: two more are counted for the front
-/// of the run behind them.
-pub(crate) fn is_worth(signed: bool, values: &[i64], step: u64) -> bool
+/// How many bytes stand in front of the run behind, where there is one.
+pub(crate) fn front_of(behind: &[i64]) -> usize
+    ensures { result ≤ 2 }
+{
+    if behind.is_empty() { 0 } else { 2 }
+}
+
+/// Whether values of equal steps take no more bytes as a run of their own than among others: so many more are counted for the
+/// front of the run behind them, and so many less where no run stands before them.
+pub(crate) fn is_worth(signed: bool, values: &[i64], step: u64, more: usize, less: usize) -> bool
     requires some { 0 < length values.now }
+    requires more { more ≤ 2 }
+    requires less { less ≤ 2 }
     requires most { length values.now ≤ 512 }
 {
     let first = number_of(signed, &values[0]);
     let last = number_of(signed, &values[values.len() - 1]);
     let width = width_of(code_for(first.max(last))) as usize;
-    8 * (run_bytes(first, step, values.len()) + 2) <= width * values.len()
+    8 * (run_bytes(first, step, values.len()) + more) <= width * values.len() + 8 * less
 }
 
 /// How many bytes a run of equal steps has.

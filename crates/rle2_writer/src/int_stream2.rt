@@ -6,7 +6,7 @@ ghost use Rattle.orc_integers.specs.Integers.{ramp};
 ghost use Rattle.orc_rle2.specs.IntRun2.{IntRun2};
 ghost use Rattle.rle_writer.specs.Written.{Adds, AddsRun};
 
-use crate::choice::{MOST, is_worth, literal_len};
+use crate::choice::{MOST, front_of, is_worth, literal_len};
 use crate::direct::{put_direct, put_repeat};
 use crate::steps::put_ramp;
 use outside::NoMemory;
@@ -37,7 +37,7 @@ fn put_run(out: &mut Vec<u8>, signed: bool, values: &[i64]) -> Result<usize, NoM
 {
     let step = first_step(values);
     let len = ramp_len(values, step, MOST);
-    if len >= 3 && is_worth(signed, &values[..len], step) {
+    if len >= 3 && is_worth(signed, &values[..len], step, front_of(&values[len..]), 2) {
         put_equal_steps(out, signed, &values[0], step, len)?;
         return Ok(len);
     }
