@@ -1,0 +1,136 @@
+//! Streams of runs.
+
+use orc_rle::{Bits, ByteRuns, IntRuns1};
+use orc_rle2::IntRuns2;
+use outside::SliceFeed;
+use rle_writer::{write_bits, write_bytes, write_integers1};
+use rle2_writer::write_integers2;
+use std::alloc::Global;
+
+/// Integers, and the streams that are wanted: version 1 and version 2, of which the shortest is taken that is known.
+struct Row {
+    values: &'static [i64],
+    signed: bool,
+    one: &'static [u8],
+    two: &'static [u8],
+}
+
+const ROWS: [Row; 8] = [
+    Row {
+        values: &[7; 100],
+        signed: false,
+        one: b"\x61\x00\x07",
+        two: b"\xC0\x63\x07\x00",
+    },
+    Row {
+        values: &[10000; 5],
+        signed: false,
+        one: b"\x02\x00\x90\x4E",
+        two: b"\x0A\x27\x10",
+    },
+    Row {
+        values: &[2, 3, 6, 7, 11],
+        signed: false,
+        one: b"\xFB\x02\x03\x06\x07\x0B",
+        two: b"\x46\x04\x23\x67\xB0",
+    },
+    Row {
+        values: &[23713, 43806, 57005, 48879],
+        signed: false,
+        one: b"\xFC\xA1\xB9\x01\x9E\xD6\x02\xAD\xBD\x03\xEF\xFD\x02",
+        two: b"\x5E\x03\x5C\xA1\xAB\x1E\xDE\xAD\xBE\xEF",
+    },
+    Row {
+        values: &[-11857, 21903, -28503, -24440],
+        signed: true,
+        one: b"\xFC\xA1\xB9\x01\x9E\xD6\x02\xAD\xBD\x03\xEF\xFD\x02",
+        two: b"\x5E\x03\x5C\xA1\xAB\x1E\xDE\xAD\xBE\xEF",
+    },
+    Row {
+        values: &[1, 1],
+        signed: false,
+        one: b"\xFE\x01\x01",
+        two: b"\x40\x01\xC0",
+    },
+    Row {
+        values: &[i64::MIN, 0, i64::MAX],
+        signed: true,
+        one: b"\xFD\xFF\xFF\xFF\xFF\xFF\xFF\xFF\xFF\xFF\x01\x00\xFE\xFF\xFF\xFF\xFF\xFF\xFF\xFF\xFF\x01",
+        two: b"\x7E\x02\xFF\xFF\xFF\xFF\xFF\xFF\xFF\xFF\x00\x00\x00\x00\x00\x00\x00\x00\xFF\xFF\xFF\xFF\xFF\xFF\xFF\xFE",
+    },
+    Row {
+        values: &[],
+        signed: true,
+        one: b"",
+        two: b"",
+    },
+];
+
+/// Whether both versions write the bytes that are wanted, and the decoders read the values from them.
+fn comes_back(alloc: Global, row: &Row) -> Option<bool> {
+    let one = write_integers1(alloc, row.signed, row.values).ok()?;
+    let two = write_integers2(alloc, row.signed, row.values).ok()?;
+    let mut feed = SliceFeed::new(vec![in alloc; one.as_slice(), two.as_slice()].ok()?);
+    let mut first = vec![in alloc; 1i64; row.values.len()].ok()?;
+    let mut second = vec![in alloc; 1i64; row.values.len()].ok()?;
+    IntRuns1::new(0, row.signed)
+        .fill(&mut feed, &mut first)
+        .ok()?;
+    IntRuns2::new(1, row.signed)
+        .fill(&mut feed, &mut second)
+        .ok()?;
+    let read = first.as_slice() == row.values && second.as_slice() == row.values;
+    Some(read && one.as_slice() == row.one && two.as_slice() == row.two)
+}
+
+#[test]
+fn integers_come_back(rt: HostRuntime) {
+    for row in &ROWS {
+        assert!(rt; comes_back(rt.alloc(), row) == Some(true));
+    }
+}
+
+/// A hundred zeros, two other bytes, and three flags, come back from the standard's streams.
+fn bytes_come_back(alloc: Global) -> Option<bool> {
+    let zeros = write_bytes(alloc, &[0; 100]).ok()?;
+    let others = write_bytes(alloc, b"\x44\x45").ok()?;
+    let flags = write_bits(alloc, &[true, false, true]).ok()?;
+    let mut feed = SliceFeed::new(vec![in alloc;
+        zeros.as_slice(),
+        others.as_slice(),
+        flags.as_slice(),
+    ].ok()?);
+    let mut bytes = [1; 100];
+    ByteRuns::new(0).fill(&mut feed, &mut bytes).ok()?;
+    let mut three = [false; 3];
+    Bits::new(2).fill(&mut feed, &mut three).ok()?;
+    let read = bytes == [0; 100] && three == [true, false, true];
+    Some(
+        read && zeros.as_slice() == b"\x61\x00".as_slice()
+            && others.as_slice() == b"\xFE\x44\x45".as_slice()
+            && flags.as_slice() == b"\xFF\xA0".as_slice(),
+    )
+}
+
+#[test]
+fn bytes_and_bits_come_back(rt: HostRuntime) {
+    assert!(rt; bytes_come_back(rt.alloc()) == Some(true));
+}
+
+/// How many bytes the streams of version 2 have: of 512 numbers from 7 on, and of 512 that go round from 0 to 4.
+fn sizes(alloc: Global) -> Option<(usize, usize)> {
+    let mut rising = Vec::new(alloc);
+    let mut round = Vec::new(alloc);
+    for i in 0..512i64 {
+        rising.push(i + 7).ok()?;
+        round.push(i % 5).ok()?;
+    }
+    let rising = write_integers2(alloc, true, &rising).ok()?;
+    let round = write_integers2(alloc, false, &round).ok()?;
+    Some((rising.len(), round.len()))
+}
+
+#[test]
+fn equal_steps_are_one_run(rt: HostRuntime) {
+    assert!(rt; sizes(rt.alloc()) == Some((4, 194)));
+}
