@@ -28,6 +28,10 @@ Slots = List (Option Held)
 abbrev pub slot_at : Slots → ℕ → Option Held
 slot_at slots slot = slice_index_or slots slot None
 
+-- none holds anything
+abbrev pub AreEmpty : Slots → Type 0
+AreEmpty slots = (slot : ℕ) → slot_at slots slot ≡ None
+
 abbrev pub key_of : Option Held → Option Key
 key_of None = None
 key_of (Some held) = Some held.key

@@ -23,7 +23,7 @@ fn drop_range<W: World, S: Store<W>>(desk: &mut Desk<'_, W, S>, held: Held)
 }
 
 /// Lets go of what a slot holds, if it holds something.
-pub(crate) fn let_go<W: World, S: Store<W>>(
+pub fn let_go<W: World, S: Store<W>>(
     desk: &mut Desk<'_, W, S>,
     slots: &mut Vec<Option<Held>>,
     slot: usize,

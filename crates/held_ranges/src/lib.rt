@@ -6,8 +6,11 @@ mod getting;
 mod held;
 pub mod laws;
 mod leaving;
+mod slots;
 mod swapping;
 
 pub use desk::Desk;
 pub use held::{Held, are_same};
+pub use leaving::let_go;
+pub use slots::{empty_slots, free_slots};
 pub use swapping::{let_go_all, swap};

@@ -1,0 +1,4 @@
+mod Doing
+mod Visits
+mod Places
+mod Takes

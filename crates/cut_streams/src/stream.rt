@@ -1,0 +1,113 @@
+//! A stream of a range of a file, with memory for a cut of it.
+ghost use Rattle.std.specs.Prelude.{◌≡◌, ◌<◌, ◌≤◌, ◌+◌, ◌^◌, length, take, drop, IfOk};
+ghost use Rattle.outside.specs.Files.{range_of};
+ghost use Rattle.range_cuts.specs.Cuts.{size_of};
+ghost use Rattle.cut_streams.specs.Streams.{before_cut, bytes_in, closed, cursor_of, file_len_of, moved, opened, place_in};
+
+use crate::Cursor;
+use outside::{FileRange, FileRef, NoMemory};
+use std::alloc::Global;
+
+/// A stream that is got cut by cut: where it stands, its file's length, and memory for the cut in which it stands.
+#[derive(Drop)]
+pub struct CutStream {
+    pub(crate) cursor: Cursor,
+    pub(crate) file_len: u64,
+    pub(crate) bytes: Vec<u8>,
+}
+
+/// How many bytes of the cut in which a stream stands were taken.
+pub(crate) fn place_of(cursor: Cursor, chunk: u32) -> u64
+    requires { 1 ≤ chunk }
+    ensures place { result ≡ place_in chunk cursor }
+    ensures inside { result ≤ cursor.taken }
+    ensures below { result < chunk }
+{
+    cursor.taken % u64::from(chunk)
+}
+
+/// The length of the cut that begins so many bytes behind the start of a range.
+pub(crate) fn cut_size(len: u64, chunk: u32, before: u64) -> u32
+    requires { before ≤ len }
+    ensures size { result ≡ size_of len chunk before }
+    ensures small { result ≤ chunk }
+    ensures inside { before + result ≤ len }
+    ensures fits { before + result < 2 ^ 64 }
+{
+    let left = len - before;
+    if left < u64::from(chunk) {
+        left as u32
+    } else {
+        chunk
+    }
+}
+
+impl CutStream {
+    /// A stream without bytes, with memory for a chunk; `NoMemory` where that is refused.
+    pub fn new(alloc: Global, chunk: u32) -> Result<CutStream, NoMemory>
+        ensures closed { IfOk result (λ s. cursor_of s ≡ closed) }
+        ensures room { IfOk result (λ s. length (bytes_in s) ≡ chunk) }
+    {
+        let Ok(bytes) = vec![in alloc; 0; chunk as usize] else {
+            return Err(NoMemory);
+        };
+        let range = FileRange {
+            file: 0,
+            at: 0,
+            len: 0,
+        };
+        Ok(CutStream {
+            cursor: Cursor { range, taken: 0 },
+            file_len: 0,
+            bytes,
+        })
+    }
+
+    /// Notes the range of a file that the stream is from now on, of which nothing was taken. Nothing is read.
+    pub fn open(&mut self, file: FileRef, at: u64, len: u64)
+        ensures cursor { cursor_of self.new ≡ opened (range_of file at len) }
+        ensures file { file_len_of self.new ≡ file.len }
+        ensures bytes { bytes_in self.new ≡ bytes_in self.old }
+    {
+        let range = FileRange {
+            file: file.number,
+            at,
+            len,
+        };
+        self.cursor = Cursor { range, taken: 0 };
+        self.file_len = file.len;
+    }
+
+    /// Nothing is left of the stream from now on.
+    pub fn close(&mut self)
+        ensures cursor { cursor_of self.new ≡ closed }
+        ensures bytes { bytes_in self.new ≡ bytes_in self.old }
+    {
+        let nothing = FileRef { number: 0, len: 0 };
+        self.open(nothing, 0, 0);
+    }
+
+    /// Copies bytes of the cut in which the stream stands, from there on, to the front of `into`, as many as fit.
+    pub(crate) fn copy(&mut self, chunk: u32, into: &mut [u8]) -> usize
+        requires some { 1 ≤ chunk }
+        requires more { (cursor_of self.old).taken < (cursor_of self.old).range.len }
+        requires room { length (bytes_in self.old) ≡ chunk }
+        ensures fits { result ≤ length into.old }
+        ensures some { 0 < length into.old → 0 < result }
+        ensures within { place_in chunk (cursor_of self.old) + result
+            ≤ size_of (cursor_of self.old).range.len chunk (before_cut chunk (cursor_of self.old)) }
+        ensures bytes { take result into.new ≡ take result (drop (place_in chunk (cursor_of self.old)) (bytes_in self.old)) }
+        ensures cursor { cursor_of self.new ≡ moved (cursor_of self.old) result }
+        ensures file { file_len_of self.new ≡ file_len_of self.old }
+        ensures same { bytes_in self.new ≡ bytes_in self.old }
+    {
+        let place = place_of(self.cursor, chunk);
+        let before = self.cursor.taken - place;
+        let size = cut_size(self.cursor.range.len, chunk, before);
+        let ready = &self.bytes[place as usize..size as usize];
+        let len = ready.len().min(into.len());
+        into[..len].copy_from_slice(&ready[..len]);
+        self.cursor.taken += len as u64;
+        len
+    }
+}

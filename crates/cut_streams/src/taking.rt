@@ -1,0 +1,147 @@
+//! Bytes are taken from a stream, and the cut that they begin with is got before.
+ghost use Rattle.std.specs.Prelude.{◌≡◌, ◌<◌, ◌≤◌, ◌+◌, ◌^◌, ℕ, List, length, take, OnOk, Some, slice_range, IfOk};
+ghost use Rattle.buffer_word.specs.KeyWord.{IsKey};
+ghost use Rattle.outside.specs.Cause.{HasCause};
+ghost use Rattle.pool_model.specs.Content.{told_bytes};
+ghost use Rattle.buffer_pool.specs.Pools.{sizes_of};
+ghost use Rattle.range_cache.specs.Caches.{pool_of};
+ghost use Rattle.held_ranges.specs.Moments.{DeskHolds, keys_of, moment};
+ghost use Rattle.cut_streams.specs.Streams.{IsOpen, IsReady, IsSoundStream, ReadiesBy, SwapsBy, TakesBy, bytes_in, cursor_of, file_len_of, key_behind, place_in};
+ghost use Rattle.cut_streams.specs.Visits.{IsChunk};
+ghost use Rattle.cut_streams.specs.Went.{Went};
+
+use crate::CutStream;
+use crate::stream::{cut_size, place_of};
+use held_ranges::{Desk, Held, swap};
+use outside::{Failed, FileRange, FileRef, Store, World};
+use range_cache::Key;
+
+/// The cut that begins so many bytes behind a range's start.
+fn cut_behind(range: FileRange, before: u64, chunk: u32) -> Key
+    requires some { 1 ≤ chunk }
+    requires small { chunk ≤ 2 ^ 20 }
+    requires more { before < range.len }
+    requires lies { range.at + range.len ≤ 4294967295 }
+    requires number { range.file < 4096 }
+    ensures key { result ≡ key_behind chunk range before }
+    ensures is_key { IsKey result }
+    ensures inside { result.at + result.len ≤ range.at + range.len }
+    ensures size { result.len ≤ chunk }
+{
+    Key {
+        file: range.file,
+        at: range.at + before,
+        len: cut_size(range.len, chunk, before),
+    }
+}
+
+/// Gets the cut that begins where the stream stands.
+fn next_cut<W: World, S: Store<W>>(
+    desk: &mut Desk<'_, W, S>,
+    slots: &mut Vec<Option<Held>>,
+    slot: usize,
+    chunk: u32,
+    stream: &mut CutStream,
+) -> Result<(), Failed>
+    requires holding { DeskHolds (moment desk.old slots.old.items) }
+    requires slot { slot < length slots.old.items }
+    requires chunk { IsChunk (sizes_of (pool_of desk.old.cache.now)) chunk }
+    requires lies { IsOpen W.files (file_len_of stream.old) (cursor_of stream.old).range }
+    requires room { length (bytes_in stream.old) ≡ chunk }
+    requires more { (cursor_of stream.old).taken < (cursor_of stream.old).range.len }
+    ensures holding { DeskHolds (moment desk.new slots.new.items) }
+    ensures went { Went W.files S.reads (moment desk.old slots.old.items) (moment desk.new slots.new.items)
+        (SwapsBy slot (key_behind chunk (cursor_of stream.old).range (cursor_of stream.old).taken) (keys_of slots.old.items) result) }
+    ensures count { length slots.new.items ≡ length slots.old.items }
+    ensures cursor { cursor_of stream.new ≡ cursor_of stream.old }
+    ensures file { file_len_of stream.new ≡ file_len_of stream.old }
+    ensures room { length (bytes_in stream.new) ≡ chunk }
+    ensures ready { place_in chunk (cursor_of stream.old) ≡ 0
+        → OnOk result (IsReady W.files chunk (cursor_of stream.old) (bytes_in stream.new)) }
+    ensures cause { HasCause (S.fault_count desk.old.store.now) (S.fault_count desk.new.store.now) result }
+{
+    let range = stream.cursor.range;
+    let key = cut_behind(range, stream.cursor.taken, chunk);
+    let file = FileRef {
+        number: range.file,
+        len: stream.file_len,
+    };
+    let (scratch, _rest) = stream.bytes.split_at_mut(key.len as usize);
+    swap(desk, slots, slot, key, file, scratch)
+}
+
+/// Gets the cut of the stream's next byte, unless the stream stands in it.
+fn make_ready<W: World, S: Store<W>>(
+    desk: &mut Desk<'_, W, S>,
+    slots: &mut Vec<Option<Held>>,
+    slot: usize,
+    chunk: u32,
+    stream: &mut CutStream,
+) -> Result<(), Failed>
+    requires holding { DeskHolds (moment desk.old slots.old.items) }
+    requires slot { slot < length slots.old.items }
+    requires chunk { IsChunk (sizes_of (pool_of desk.old.cache.now)) chunk }
+    requires sound { IsSoundStream W.files chunk stream.old }
+    requires more { (cursor_of stream.old).taken < (cursor_of stream.old).range.len }
+    ensures holding { DeskHolds (moment desk.new slots.new.items) }
+    ensures went { Went W.files S.reads (moment desk.old slots.old.items) (moment desk.new slots.new.items)
+        (ReadiesBy chunk slot (cursor_of stream.old) (keys_of slots.old.items) result) }
+    ensures count { length slots.new.items ≡ length slots.old.items }
+    ensures cursor { cursor_of stream.new ≡ cursor_of stream.old }
+    ensures file { file_len_of stream.new ≡ file_len_of stream.old }
+    ensures sound { IsSoundStream W.files chunk stream.new }
+    ensures ready { OnOk result (IsReady W.files chunk (cursor_of stream.old) (bytes_in stream.new)) }
+    ensures cause { HasCause (S.fault_count desk.old.store.now) (S.fault_count desk.new.store.now) result }
+{
+    if place_of(stream.cursor, chunk) == 0 {
+        next_cut(desk, slots, slot, chunk, stream)
+    } else {
+        Ok(())
+    }
+}
+
+/// Takes bytes from the front of what is left of a stream to the front of `into`, and answers how many.
+///
+/// They are of one cut: the one in which the stream stands, or, where it stands between two, the next, which is got for its slot
+/// before, in place of the one that the slot holds. It answers 0 for a non-empty `into` exactly at the stream's end. The chunk is that
+/// of the cache.
+///
+/// `Failed` comes only where the store's count of faults rose in this call; then nothing was taken, and the slot holds nothing. No
+/// memory is taken.
+pub fn take_from<W: World, S: Store<W>>(
+    desk: &mut Desk<'_, W, S>,
+    slots: &mut Vec<Option<Held>>,
+    slot: usize,
+    chunk: u32,
+    stream: &mut CutStream,
+    into: &mut [u8],
+) -> Result<usize, Failed>
+    requires holding { DeskHolds (moment desk.old slots.old.items) }
+    requires slot { slot < length slots.old.items }
+    requires chunk { IsChunk (sizes_of (pool_of desk.old.cache.now)) chunk }
+    requires sound { IsSoundStream W.files chunk stream.old }
+    ensures holding { DeskHolds (moment desk.new slots.new.items) }
+    ensures went { Went W.files S.reads (moment desk.old slots.old.items) (moment desk.new slots.new.items)
+        (TakesBy chunk slot (cursor_of stream.old) (keys_of slots.old.items) result (cursor_of stream.new)) }
+    ensures count { length slots.new.items ≡ length slots.old.items }
+    ensures sound { IsSoundStream W.files chunk stream.new }
+    ensures room { IfOk result (λ n. n ≤ length into.old) }
+    ensures bytes { IfOk result (λ n. (file : List ℕ) → told_bytes W.files (cursor_of stream.old).range.file ≡ Some file
+        → take n into.new ≡ slice_range file ((cursor_of stream.old).range.at + (cursor_of stream.old).taken)
+        ((cursor_of stream.old).range.at + (cursor_of stream.old).taken + n)) }
+    ensures ends { IfOk result (λ n. 0 < length into.old → n ≡ 0
+        → (cursor_of stream.old).range.len ≤ (cursor_of stream.old).taken) }
+    ensures cause { HasCause (S.fault_count desk.old.store.now) (S.fault_count desk.new.store.now) result }
+    ensures seat_name { desk.new.seat.ghost_name ≡ desk.old.seat.ghost_name }
+    ensures store_name { desk.new.store.ghost_name ≡ desk.old.store.ghost_name }
+    ensures totals_name { desk.new.totals.ghost_name ≡ desk.old.totals.ghost_name }
+    ensures cache { desk.new.cache.now ≡ desk.old.cache.now }
+{
+    if into.len() == 0 || stream.cursor.taken >= stream.cursor.range.len {
+        return Ok(0);
+    }
+    match make_ready(desk, slots, slot, chunk, stream) {
+        Ok(()) => Ok(stream.copy(chunk, into)),
+        Err(failed) => Err(failed),
+    }
+}
