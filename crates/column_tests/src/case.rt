@@ -5,64 +5,56 @@ use crate::case_feed::CaseFeed;
 use orc_columns::{Column, ColumnFault, ColumnPlan, ColumnReader, ValueRef, first_fault};
 use std::alloc::Global;
 
-/// A column of a stripe, with its streams PRESENT, DATA, LENGTH and DICTIONARY_DATA, and what is wanted of it.
+/// A column of a stripe: its kind, its encoding, the size of its dictionary and its rows; whether it has a PRESENT stream; its streams
+/// PRESENT, DATA, LENGTH and DICTIONARY_DATA; and what is wanted of it.
 #[derive(Drop)]
 pub struct Case<'a> {
-    pub kind: u64,
-    pub encoding: u64,
-    pub size: u64,
-    pub rows: u64,
-    pub present: Option<Vec<u8>>,
-    pub body: Vec<u8>,
-    pub length: Vec<u8>,
-    pub dictionary: Vec<u8>,
+    numbers: Vec<u64>,
+    has_present: bool,
+    streams: Vec<Vec<u8>>,
     pub wanted: &'a str,
 }
 
-/// A stream's bytes, by two hexadecimal digits each; a dot stands for none.
-fn bytes_of(alloc: Global, word: &str) -> Option<Vec<u8>> {
-    hex::decode(alloc, if word == "." { "" } else { word }).ok()
-}
-
-/// A stream that isn't there is a dash.
-fn present_of(alloc: Global, word: &str) -> Option<Option<Vec<u8>>> {
-    if word == "-" {
-        return Some(None);
+/// The first four words of a line, which are numbers.
+fn numbers_of(alloc: Global, column: &str) -> Option<Vec<u64>> {
+    let mut numbers = Vec::new(alloc);
+    for word in column.split(' ').take(4) {
+        numbers.push(word.parse::<u64>().ok()?).ok()?;
     }
-    Some(Some(bytes_of(alloc, word)?))
+    Some(numbers)
 }
 
-/// The case of a line: kind, encoding, size of the dictionary, rows, the four streams, and behind a colon what is wanted.
+/// The streams behind them, by two hexadecimal digits a byte. A dot stands for no byte, and a dash for a stream that isn't there.
+fn streams_of(alloc: Global, column: &str) -> Option<Vec<Vec<u8>>> {
+    let mut streams = Vec::new(alloc);
+    for word in column.split(' ').skip(4) {
+        let digits = if word == "." || word == "-" { "" } else { word };
+        streams.push(hex::decode(alloc, digits).ok()?).ok()?;
+    }
+    Some(streams)
+}
+
+/// The case of a line: the four numbers, the four streams, and behind a colon what is wanted.
 pub fn case_of<'a>(alloc: Global, line: &'a str) -> Option<Case<'a>> {
     let (column, wanted) = line.split_once(" : ")?;
-    let mut words = column.split_whitespace();
+    let numbers = numbers_of(alloc, column)?;
+    let streams = streams_of(alloc, column)?;
     Some(Case {
-        kind: words.next()?.parse().ok()?,
-        encoding: words.next()?.parse().ok()?,
-        size: words.next()?.parse().ok()?,
-        rows: words.next()?.parse().ok()?,
-        present: present_of(alloc, words.next()?)?,
-        body: bytes_of(alloc, words.next()?)?,
-        length: bytes_of(alloc, words.next()?)?,
-        dictionary: bytes_of(alloc, words.next()?)?,
+        numbers,
+        has_present: !column.contains('-'),
+        streams,
         wanted,
     })
 }
 
 /// The feed of a case, of which that take fails.
 pub fn feed_of<'a>(alloc: Global, case: &'a Case<'_>, fails_at: u64) -> Option<CaseFeed<'a>> {
-    let present = match &case.present {
-        Some(bytes) => bytes.as_slice(),
-        None => b"".as_slice(),
-    };
-    let rests = vec![in alloc;
-        present,
-        case.body.as_slice(),
-        case.length.as_slice(),
-        case.dictionary.as_slice(),
-    ];
+    let mut rests = Vec::new(alloc);
+    for stream in &case.streams {
+        rests.push(stream.as_slice()).ok()?;
+    }
     Some(CaseFeed {
-        rests: rests.ok()?,
+        rests,
         takes: 0,
         fails_at,
         trail: 0,
@@ -70,12 +62,19 @@ pub fn feed_of<'a>(alloc: Global, case: &'a Case<'_>, fails_at: u64) -> Option<C
     })
 }
 
-fn number_of(present: &Option<Vec<u8>>) -> Option<u32>
-    ensures { (stream : ℕ) → result ≡ Some stream → stream ≡ 0 }
-{
-    match present {
-        Some(_) => Some(0),
-        None => None,
+/// A number of a case, by its place.
+fn number(case: &Case<'_>, place: usize) -> u64 {
+    match case.numbers.get(place) {
+        Some(number) => *number,
+        None => 0,
+    }
+}
+
+/// How many bytes a stream of a case has.
+fn len(case: &Case<'_>, stream: usize) -> u64 {
+    match case.streams.get(stream) {
+        Some(bytes) => bytes.len() as u64,
+        None => 0,
     }
 }
 
@@ -86,38 +85,29 @@ fn plan_of(case: &Case<'_>) -> ColumnPlan
     ensures dictionary { result.dictionary ≡ Some 3 }
 {
     ColumnPlan {
-        kind: case.kind,
-        encoding: Some(case.encoding),
-        dictionary_size: case.size,
-        present: number_of(&case.present),
+        kind: number(case, 0),
+        encoding: Some(number(case, 1)),
+        dictionary_size: number(case, 2),
+        present: if case.has_present { Some(0) } else { None },
         body: Some(1),
         length: Some(2),
         dictionary: Some(3),
-        body_len: case.body.len() as u64,
-        dictionary_len: case.dictionary.len() as u64,
+        body_len: len(case, 1),
+        dictionary_len: len(case, 3),
     }
 }
 
-/// A reader of the case's column.
-pub fn reader_of(
-    alloc: Global,
-    case: &Case<'_>,
-    feed: &mut CaseFeed<'_>,
-) -> Result<ColumnReader, ColumnFault> {
-    ColumnReader::start(alloc, plan_of(case), feed)
-}
-
-/// What `first_fault` answers of the case's column in so many rows.
-pub fn judged(
-    case: &Case<'_>,
-    feed: &mut CaseFeed<'_>,
-    rows: u64,
-) -> Result<Option<ColumnFault>, ColumnFault> {
-    first_fault(plan_of(case), feed, rows)
+/// The first fault of the case's column as a word, or no word.
+pub fn judged(alloc: Global, case: &Case<'_>, feed: &mut CaseFeed<'_>) -> Option<String> {
+    match first_fault(plan_of(case), feed, number(case, 3)) {
+        Ok(None) => Some(String::new(alloc)),
+        Ok(Some(fault)) => format!(in alloc; "{fault:?}").ok(),
+        Err(_) => None,
+    }
 }
 
 /// The rows of a batch as words, each with a space behind it.
-fn push_rows(alloc: Global, words: &mut String, column: &Column) -> Option<()> {
+pub fn push_rows(alloc: Global, words: &mut String, column: &Column) -> Option<()> {
     for row in 0..column.len() {
         let word = match column.get(row) {
             ValueRef::Null => String::from_str(alloc, "null ").ok()?,
@@ -133,28 +123,67 @@ fn push_rows(alloc: Global, words: &mut String, column: &Column) -> Option<()> {
     Some(())
 }
 
-/// What a column's batches give: its rows as words, or its fault, which is answered again, and takes nothing then.
-pub fn read_column(alloc: Global, case: &Case<'_>, batch: u32, fails_at: u64) -> Option<String> {
-    let mut feed = feed_of(alloc, case, fails_at)?;
-    let mut reader = match reader_of(alloc, case, &mut feed) {
-        Ok(reader) => reader,
-        Err(fault) => return format!(in alloc; "{fault:?}").ok(),
+/// Reads a batch of so many rows. A fault is answered again, and takes nothing then; else nothing is answered here.
+fn next_batch(
+    alloc: Global,
+    reader: &mut ColumnReader,
+    feed: &mut CaseFeed<'_>,
+    rows: u64,
+    out: &mut Column,
+) -> Option<Result<(), ColumnFault>> {
+    let rows = rows.clamp(1, 1024) as u32;
+    let Err(fault) = reader.next_batch(alloc, feed, rows, out) else {
+        feed.end_part();
+        return Some(Ok(()));
     };
-    let mut words = String::new(alloc);
-    let mut out = Column::empty(alloc);
-    let mut left = case.rows;
-    while left > 0 {
-        let rows = left.min(u64::from(batch)).clamp(1, 1024) as u32;
-        if let Err(fault) = reader.next_batch(alloc, &mut feed, rows, &mut out) {
-            let takes = feed.takes;
-            let again = reader.next_batch(alloc, &mut feed, rows, &mut out).err();
-            if again != Some(fault) || feed.takes != takes {
-                return None;
-            }
-            return format!(in alloc; "{fault:?}").ok();
-        }
-        push_rows(alloc, &mut words, &out)?;
-        left = left.saturating_sub(u64::from(rows));
+    let takes = feed.takes;
+    let again = reader.next_batch(alloc, feed, rows, out).err();
+    if again != Some(fault) || feed.takes != takes {
+        return None;
     }
-    Some(words)
+    Some(Err(fault))
+}
+
+/// Reads so many rows, in batches of so many, and adds them as words.
+fn read_rows(
+    alloc: Global,
+    reader: &mut ColumnReader,
+    feed: &mut CaseFeed<'_>,
+    sizes: (u64, u64),
+    words: &mut String,
+) -> Option<Result<(), ColumnFault>> {
+    let (mut left, batch) = sizes;
+    let mut out = Column::empty(alloc);
+    while left > 0 {
+        let rows = left.min(batch);
+        if let Err(fault) = next_batch(alloc, reader, feed, rows, &mut out)? {
+            return Some(Err(fault));
+        }
+        push_rows(alloc, words, &out)?;
+        left = left.saturating_sub(rows.max(1));
+    }
+    Some(Ok(()))
+}
+
+/// What a column's batches of so many rows give: its rows as words, or its fault. A part of the feed's trail ends behind the start and
+/// behind each batch.
+pub fn read_column(
+    alloc: Global,
+    case: &Case<'_>,
+    feed: &mut CaseFeed<'_>,
+    batch: u64,
+) -> Option<String> {
+    let mut words = String::new(alloc);
+    let read = match ColumnReader::start(alloc, plan_of(case), feed) {
+        Ok(mut reader) => {
+            feed.end_part();
+            let sizes = (number(case, 3), batch);
+            read_rows(alloc, &mut reader, feed, sizes, &mut words)?
+        }
+        Err(fault) => Err(fault),
+    };
+    match read {
+        Ok(()) => Some(words),
+        Err(fault) => format!(in alloc; "{fault:?}").ok(),
+    }
 }

@@ -55,8 +55,24 @@ impl<'a> Feed for CaseFeed<'a> {
     ghost fed_lost = { λ _ _ _ _ _. tt };
 }
 
+impl<'a> CaseFeed<'a> {
+    /// Ends a part of the trail by a 9.
+    pub fn end_part(&mut self) {
+        self.trail = self.trail.saturating_mul(10).saturating_add(9);
+    }
+
+    /// How many bytes are left of each stream, a digit for each.
+    pub fn left(&self) -> u64 {
+        let mut left = 0u64;
+        for rest in &self.rests {
+            left = left.saturating_mul(10).saturating_add(rest.len() as u64);
+        }
+        left
+    }
+}
+
 /// A trail with a digit more, unless it ends in that digit.
-pub fn after(trail: u64, digit: u64) -> u64 {
+fn after(trail: u64, digit: u64) -> u64 {
     if trail % 10 == digit {
         return trail;
     }

@@ -1,6 +1,6 @@
 //! The rows of a column, and the first condition that refuses it.
 
-use crate::case::{Case, case_of, feed_of, judged, read_column};
+use crate::case::{case_of, feed_of, judged, read_column};
 use std::alloc::Global;
 
 /// Columns that have values: kind, encoding, size of the dictionary, rows, PRESENT, DATA, LENGTH, DICTIONARY_DATA.
@@ -51,60 +51,103 @@ const FAULTS: &str = "\
 7 0 0 1 FF FF FD . : Run(Present, StreamEnds)
 ";
 
-/// Whether the batches give what is wanted, of one row, two, or as many as a batch may have.
-fn gives_wanted(alloc: Global, case: &Case<'_>, batch: u32) -> bool {
-    match read_column(alloc, case, batch, 0) {
-        Some(words) => words.as_str().trim_end() == case.wanted,
-        None => false,
-    }
-}
+/// Columns of all kinds and encodings that claim as many rows as can be claimed, each with PRESENT absent, without a byte and too short; of
+/// their other streams each has one run. Behind them dictionaries that claim as many entries as can be claimed.
+const CLAIMED: &str = "\
+0 0 0 18446744073709551615 - FFFF . . : Run(Body, StreamEnds)
+0 0 0 18446744073709551615 . FFFF . . : Run(Body, StreamEnds)
+0 0 0 18446744073709551615 FFFF FFFF . . : Run(Present, StreamEnds)
+2 0 0 18446744073709551615 - FF02 . . : Run(Body, StreamEnds)
+2 0 0 18446744073709551615 . FF02 . . : Run(Body, StreamEnds)
+2 0 0 18446744073709551615 FFFF FF02 . . : Run(Present, StreamEnds)
+2 2 0 18446744073709551615 - 0002 . . : Run(Body, StreamEnds)
+2 2 0 18446744073709551615 . 0002 . . : Run(Body, StreamEnds)
+2 2 0 18446744073709551615 FFFF 0002 . . : Run(Present, StreamEnds)
+3 0 0 18446744073709551615 - FF02 . . : Run(Body, StreamEnds)
+3 0 0 18446744073709551615 . FF02 . . : Run(Body, StreamEnds)
+3 0 0 18446744073709551615 FFFF FF02 . . : Run(Present, StreamEnds)
+3 2 0 18446744073709551615 - 0002 . . : Run(Body, StreamEnds)
+3 2 0 18446744073709551615 . 0002 . . : Run(Body, StreamEnds)
+3 2 0 18446744073709551615 FFFF 0002 . . : Run(Present, StreamEnds)
+4 0 0 18446744073709551615 - FF02 . . : Run(Body, StreamEnds)
+4 0 0 18446744073709551615 . FF02 . . : Run(Body, StreamEnds)
+4 0 0 18446744073709551615 FFFF FF02 . . : Run(Present, StreamEnds)
+4 2 0 18446744073709551615 - 0002 . . : Run(Body, StreamEnds)
+4 2 0 18446744073709551615 . 0002 . . : Run(Body, StreamEnds)
+4 2 0 18446744073709551615 FFFF 0002 . . : Run(Present, StreamEnds)
+7 0 0 18446744073709551615 - 61 FF01 . : Run(Length, StreamEnds)
+7 0 0 18446744073709551615 . 61 FF01 . : Run(Length, StreamEnds)
+7 0 0 18446744073709551615 FFFF 61 FF01 . : Run(Present, StreamEnds)
+7 2 0 18446744073709551615 - 61 0000 . : Run(Length, StreamEnds)
+7 2 0 18446744073709551615 . 61 0000 . : Run(Length, StreamEnds)
+7 2 0 18446744073709551615 FFFF 61 0000 . : Run(Present, StreamEnds)
+7 1 1 18446744073709551615 - FF00 FF01 61 : Run(Body, StreamEnds)
+7 1 1 18446744073709551615 . FF00 FF01 61 : Run(Body, StreamEnds)
+7 1 1 18446744073709551615 FFFF FF00 FF01 61 : Run(Present, StreamEnds)
+7 3 3 18446744073709551615 - 0000 0000 61 : Run(Body, StreamEnds)
+7 3 3 18446744073709551615 . 0000 0000 61 : Run(Body, StreamEnds)
+7 3 3 18446744073709551615 FFFF 0000 0000 61 : Run(Present, StreamEnds)
+7 1 18446744073709551615 1 - FF00 FF01 61 : Run(Length, StreamEnds)
+7 3 18446744073709551615 1 - 0000 0000 61 : Run(Length, StreamEnds)
+7 1 18446744073709551615 0 - . . . : Run(Length, StreamEnds)
+";
 
-/// The first fault of a column as a word, or none.
-fn fault_word(alloc: Global, case: &Case<'_>) -> Option<String> {
-    let mut feed = feed_of(alloc, case, 0)?;
-    match judged(case, &mut feed, case.rows) {
-        Ok(None) => Some(String::new(alloc)),
-        Ok(Some(fault)) => format!(in alloc; "{fault:?}").ok(),
-        Err(_) => None,
-    }
-}
+/// As many takes as the bytes of such streams may ask for.
+const FEW: u64 = 40;
 
-fn has_rows(alloc: Global, line: &str) -> Option<bool> {
+/// A column by a dictionary, of which a take fails.
+const FAILS: &str = "7 1 2 3 - FD000100 FE0101 6162 : Read(Failed)";
+
+/// Whether the batches of a line's column, of so many rows each, give what is wanted where that take fails.
+fn gives(alloc: Global, line: &str, batch: u64, fails_at: u64) -> Option<bool> {
     let case = case_of(alloc, line)?;
-    let gives = [1, 2, 1024]
-        .iter()
-        .all(|batch| gives_wanted(alloc, &case, *batch));
-    Some(gives && fault_word(alloc, &case)?.is_empty())
+    let mut feed = feed_of(alloc, &case, fails_at)?;
+    let words = read_column(alloc, &case, &mut feed, batch)?;
+    Some(words.as_str().trim_end() == case.wanted)
 }
 
-#[test]
-fn columns_give_their_rows_in_batches_of_any_size(rt: HostRuntime) {
+/// Whether that is the first fault of a line's column, and finding it takes little.
+fn has_fault(alloc: Global, line: &str, fault: &str) -> Option<bool> {
+    let case = case_of(alloc, line)?;
+    let mut feed = feed_of(alloc, &case, 0)?;
+    let found = judged(alloc, &case, &mut feed)?;
+    Some(found.as_str() == fault && feed.takes <= FEW)
+}
+
+/// Columns that have values give them in batches of one row, of two, and of as many as a batch may have.
+fn rows_are_given(alloc: Global) -> Option<bool> {
     for line in ROWS.lines() {
-        assert!(rt; has_rows(rt.alloc(), line) == Some(true), "{line}");
+        let small = gives(alloc, line, 1, 0)? && gives(alloc, line, 2, 0)?;
+        if !small || !gives(alloc, line, 1024, 0)? || !has_fault(alloc, line, "")? {
+            return Some(false);
+        }
     }
+    Some(true)
 }
 
-fn is_refused(alloc: Global, line: &str) -> Option<bool> {
-    let case = case_of(alloc, line)?;
-    Some(gives_wanted(alloc, &case, 1024) && fault_word(alloc, &case)?.as_str() == case.wanted)
-}
-
-#[test]
-fn the_first_condition_refuses_a_column(rt: HostRuntime) {
-    for line in FAULTS.lines() {
-        assert!(rt; is_refused(rt.alloc(), line) == Some(true), "{line}");
+fn faults_are_found(alloc: Global, lines: &str) -> Option<bool> {
+    for line in lines.lines() {
+        let (_, fault) = line.split_once(" : ")?;
+        if !gives(alloc, line, 1024, 0)? || !has_fault(alloc, line, fault)? {
+            return Some(false);
+        }
     }
+    Some(true)
 }
 
-/// Whether that take of a dictionary column fails, and the fault is kept.
-fn fails_at(alloc: Global, take: u64) -> Option<bool> {
-    let case = case_of(alloc, "7 1 2 3 - FD000100 FE0101 6162 : Read(Failed)")?;
-    Some(read_column(alloc, &case, 1, take)?.as_str() == case.wanted)
-}
-
-#[test]
-fn a_take_that_fails_is_answered_again(rt: HostRuntime) {
+fn takes_fail(alloc: Global) -> Option<bool> {
     for take in 1..=5 {
-        assert!(rt; fails_at(rt.alloc(), take) == Some(true), "{take}");
+        if !gives(alloc, FAILS, 1, take)? {
+            return Some(false);
+        }
     }
+    Some(true)
+}
+
+#[test]
+fn columns_give_their_rows_or_their_first_fault(rt: HostRuntime) {
+    assert!(rt; rows_are_given(rt.alloc()) == Some(true));
+    assert!(rt; faults_are_found(rt.alloc(), FAULTS) == Some(true));
+    assert!(rt; faults_are_found(rt.alloc(), CLAIMED) == Some(true));
+    assert!(rt; takes_fail(rt.alloc()) == Some(true));
 }

@@ -7,8 +7,6 @@ mod case;
 #[cfg(test)]
 mod case_feed;
 #[cfg(test)]
-mod claimed;
-#[cfg(test)]
 mod columns;
 #[cfg(test)]
 mod takes;

@@ -1,5 +1,5 @@
 use Rattle.column_tests.proofs.Cases.{numbers_differ, untold_sized}
-use Rattle.column_tests.proofs.case.reader_of.Goals as goal
+use Rattle.column_tests.proofs.case.read_column.Goals as goal
 
 pub start-requires-clause-differ : goal.start-requires-clause-differ
 start-requires-clause-differ c =

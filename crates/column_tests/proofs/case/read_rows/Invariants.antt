@@ -1,4 +1,4 @@
-use Rattle.column_tests.proofs.case.read_column.Given as goal
+use Rattle.column_tests.proofs.case.read_rows.Given as goal
 
 abbrev pub invariant-loop-left : goal.invariant-loop-left
 invariant-loop-left l = Unit {0}
