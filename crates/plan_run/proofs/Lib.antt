@@ -1,0 +1,7 @@
+pub mod Places
+pub mod Merges
+pub mod Firsts
+pub mod Begun
+pub mod Quiet
+pub mod ShortPlans
+pub mod Sending
