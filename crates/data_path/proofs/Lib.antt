@@ -1,12 +1,5 @@
 pub mod Answering
-pub mod ColumnReading
-pub mod ColumnSums
-pub mod Found
-pub mod OneMeaning
-pub mod Parts
-pub mod PlanBytes
-pub mod Scans
-pub mod StripeSums
-pub mod Stripes
-pub mod PlansRead
 pub mod NameLists
+pub mod PlanBytes
+pub mod ScanWords
+pub mod TookPlan

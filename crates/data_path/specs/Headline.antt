@@ -1,49 +1,60 @@
 -- What a call of the program answers and writes. Source: this project's own.
-use Rattle.std.specs.Prelude.{◌≡◌, ◌≢◌, ◌≤◌, ℕ, List, [], take, length, Option, Some}
+use Rattle.std.specs.Prelude.{◌≡◌, ◌⊎◌, ◌≤◌, ℕ, List, take, length, Option, Some, Ok, Err}
 use Rattle.outside.specs.Cause.{Rose}
 use Rattle.outside.specs.Files.{Files}
 use Rattle.outside.specs.Told.{Extended}
-use Rattle.data_path.specs.declared.line.Outcome.{Outcome}
-use Rattle.data_path.specs.declared.line.Outcome.TheVariants.{Sum, NoFile, Compressed, BrokenTail, NoColumn, WrongKind, BrokenFooter, BrokenColumn, ReadFault, Overflow}
-use Rattle.data_path.specs.Faults.{IsWorded}
+use Rattle.plan_words.specs.declared.fault.PlanKind.{PlanKind}
+use Rattle.fragment_plan.specs.declared.fragment.Fragment.{Fragment}
+use Rattle.fragment_plan.specs.Plan.{plan_of}
+use Rattle.fragment_outcome.specs.declared.outcome.Outcome.{Outcome}
+use Rattle.fragment_meaning.specs.PlanOutcomes.{PlanMeans}
+use Rattle.plan_run.specs.Run.{HasRun}
+use Rattle.plan_run.specs.Output.{results_text}
+use Rattle.command_line.specs.Pages.{usage_text}
+use Rattle.command_line.specs.declared.settings.Options.{Options}
 use Rattle.data_path.specs.declared.status.Status.{Status}
 use Rattle.data_path.specs.declared.status.Status.TheVariants.{Done, SomeFailed, Usage, BadPlan, WriteFault, PlanFault, NoMemory}
-use Rattle.data_path.specs.Words.{AreGoodWords, usage_text}
-use Rattle.data_path.specs.SumPlan.{IsSumPlan}
-use Rattle.data_path.specs.Line.{line, bad_plan_text}
-use Rattle.data_path.specs.PlanBytes.{GaveFront}
-use Rattle.data_path.specs.Meaning.{found, Means}
+use Rattle.data_path.specs.FaultLine.{fault_text}
+use Rattle.data_path.specs.PlanBytes.{TookPlan}
+use Rattle.data_path.specs.Statuses.{status_of}
+use Rattle.data_path.specs.Usage.{AreBad, AreGood}
 
--- the most bytes that are read of a plan: one more than a plan has at most
-abbrev pub most_read : ℕ
-most_read = 1048577
+-- ---- from the plan's bytes on
 
--- The outcome of a scan: a read fault only where the store's faults rose, and else its meaning, where files are told. A
--- fault that it holds has words.
-pub record HasOutcome (told : Option Files) (faults faults' : ℕ) (file column : List ℕ) (outcome : Outcome) : Type 0 where
-  pub worded : IsWorded outcome
-  pub fault : outcome ≡ ReadFault → Rose faults faults'
-  pub meaning : (files : Files) → told ≡ Some files → outcome ≢ ReadFault → Means (found files file column) outcome
+-- What a run of a plan's bytes has to write, and its status where the sink takes it: the line of the plan's first fault, and then the
+-- store is as it was; or the results of its fragments, in plan order.
+pub data Prints (told : Option Files) (faults faults' : ℕ) (untouched : Type 0) (bytes : List ℕ) : Status → List ℕ → Type 0 where
+  bad_plan : {line : ℕ} {kind : PlanKind} → plan_of bytes ≡ Err (line, kind) → untouched
+      → Prints told faults faults' untouched bytes BadPlan (fault_text line kind)
+  ran : {plan : List Fragment} {outcomes : List Outcome} → plan_of bytes ≡ Ok plan → HasRun told faults faults' plan outcomes
+      → Prints told faults faults' untouched bytes (status_of outcomes) (results_text plan outcomes)
 
--- the source was read to its end: where what was left was told, these are all its bytes, and nothing is left
-abbrev pub IsReadWhole : Option (List ℕ) → Option (List ℕ) → List ℕ → Type 0
-IsReadWhole left left' bytes = (all : List ℕ) → left ≡ Some all → (bytes ≡ all) × (left' ≡ Some [])
+-- ---- answers, by what there is to write
 
--- the status after a line with that outcome
-abbrev pub status_of : Outcome → Status
-status_of (Sum total) = Done
-status_of NoFile = SomeFailed
-status_of (Compressed kind) = SomeFailed
-status_of (BrokenTail fault) = SomeFailed
-status_of (NoColumn column) = SomeFailed
-status_of (WrongKind column) = SomeFailed
-status_of (BrokenFooter stripe fault) = SomeFailed
-status_of (BrokenColumn stripe column fault) = SomeFailed
-status_of ReadFault = SomeFailed
-status_of Overflow = SomeFailed
+-- the whole text was written
+abbrev pub Wrote : (Status → List ℕ → Type 0) → Status → Option (List ℕ) → Option (List ℕ) → Type 0
+Wrote Writes status before after = (text : List ℕ) × Writes status text × Extended before after text
+
+-- a front of a text was written
+abbrev pub WroteFront : (Status → List ℕ → Type 0) → Option (List ℕ) → Option (List ℕ) → Type 0
+WroteFront Writes before after =
+    (status : Status) × (text : List ℕ) × Writes status text × ((n : ℕ) × (n ≤ length text) × Extended before after (take n text))
+
+-- What an answer says, of the sink's content before and after: the text was written whole; or the sink's faults rose, and a
+-- front of the text was written; or the plan wasn't read for a fault, or memory was refused, and nothing was written.
+abbrev pub Answers : (Status → List ℕ → Type 0) → Type 0 → Type 0 → Option (List ℕ) → Option (List ℕ) → Status → Type 0
+Answers Writes SinkRose PlanUnread before after Done = Wrote Writes Done before after
+Answers Writes SinkRose PlanUnread before after SomeFailed = Wrote Writes SomeFailed before after
+Answers Writes SinkRose PlanUnread before after Usage = Wrote Writes Usage before after
+Answers Writes SinkRose PlanUnread before after BadPlan = Wrote Writes BadPlan before after
+Answers Writes SinkRose PlanUnread before after WriteFault = SinkRose × WroteFront Writes before after
+Answers Writes SinkRose PlanUnread before after PlanFault = PlanUnread × (after ≡ before)
+Answers Writes SinkRose PlanUnread before after NoMemory = after ≡ before
+
+-- ---- the whole call
 
 -- What a call is given, and what it leaves: the files that are told, the words, what is left of the plan's source before
--- and after, and the counts of faults of source, store and sink before and after.
+-- and after, and the counts of faults of source and store before and after.
 pub record Call : Type 0 where
   pub told : Option Files
   pub words : List (List ℕ)
@@ -53,35 +64,38 @@ pub record Call : Type 0 where
   pub plan_faults' : ℕ
   pub store_faults : ℕ
   pub store_faults' : ℕ
-  pub sink_faults : ℕ
-  pub sink_faults' : ℕ
 
--- What a call has to write, and its status where the sink takes it: the usage line at words that aren't good; the
--- line on a bad plan; or the line of the fragment's outcome.
-pub data Writes (call : Call) : Status → List ℕ → Type 0 where
-  usage : ¬ AreGoodWords call.words → call.left' ≡ call.left → call.plan_faults' ≡ call.plan_faults → Writes call Usage usage_text
-  bad_plan : {bytes : List ℕ} → AreGoodWords call.words → GaveFront call.left call.left' most_read bytes
-      → ((name column file : List ℕ) → IsSumPlan bytes name column file → ⊥) → Writes call BadPlan bad_plan_text
-  ran : {bytes name column file : List ℕ} {outcome : Outcome} → AreGoodWords call.words → IsReadWhole call.left call.left' bytes
-      → IsSumPlan bytes name column file → HasOutcome call.told call.store_faults call.store_faults' file column outcome
-      → Writes call (status_of outcome) (line name outcome)
+-- What a call has to write, and its status where the sink takes it: the usage line at words that aren't good, and then source and
+-- store are as they were; or what the plan's bytes print.
+pub data Writes (call : Call) (source_untouched store_untouched : Type 0) : Status → List ℕ → Type 0 where
+  usage : AreBad call.words → source_untouched → store_untouched → Writes call source_untouched store_untouched Usage usage_text
+  planned : {options : Options} {bytes : List ℕ} {status : Status} {text : List ℕ} → AreGood call.words options
+      → TookPlan call.left call.left' bytes → Prints call.told call.store_faults call.store_faults' store_untouched bytes status text
+      → Writes call source_untouched store_untouched status text
 
--- the whole text was written
-abbrev pub Wrote : Call → Status → Option (List ℕ) → Option (List ℕ) → Type 0
-Wrote call status before after = (text : List ℕ) × Writes call status text × Extended before after text
+-- the words are good, the plan's source failed, and the store is as it was
+pub record IsUnread (call : Call) (store_untouched : Type 0) : Type 0 where
+  pub options : Options
+  pub good : AreGood call.words options
+  pub rose : Rose call.plan_faults call.plan_faults'
+  pub store : store_untouched
 
--- a front of the text was written
-abbrev pub WroteFront : Call → Option (List ℕ) → Option (List ℕ) → Type 0
-WroteFront call before after =
-    (status : Status) × (text : List ℕ) × Writes call status text × ((n : ℕ) × (n ≤ length text) × Extended before after (take n text))
+-- ---- completeness
 
--- What an answer says, of the sink's content before and after: the text was written whole; or the sink's faults rose, and a
--- front of the text was written; or the plan source's faults rose, or memory was refused, and nothing was written.
-abbrev pub Answers : Call → Option (List ℕ) → Option (List ℕ) → Status → Type 0
-Answers call before after Done = Wrote call Done before after
-Answers call before after SomeFailed = Wrote call SomeFailed before after
-Answers call before after Usage = Wrote call Usage before after
-Answers call before after BadPlan = Wrote call BadPlan before after
-Answers call before after WriteFault = Rose call.sink_faults call.sink_faults' × WroteFront call before after
-Answers call before after PlanFault = AreGoodWords call.words × Rose call.plan_faults call.plan_faults' × (after ≡ before)
-Answers call before after NoMemory = AreGoodWords call.words × (after ≡ before)
+-- memory was refused and nothing was written, or all results were, of each fragment what it means
+abbrev pub IsComplete : Files → List Fragment → Option (List ℕ) → Option (List ℕ) → Status → Type 0
+IsComplete files plan before after status = ((status ≡ NoMemory) × (after ≡ before))
+    ⊎ ((outcomes : List Outcome) × PlanMeans files plan outcomes × (status ≡ status_of outcomes)
+    × Extended before after (results_text plan outcomes))
+
+-- where files are told and neither store nor sink fails, a plan's results are written
+abbrev pub CompletesAlone : Option Files → Type 0 → Type 0 → List ℕ → Option (List ℕ) → Option (List ℕ) → Status → Type 0
+CompletesAlone told StoreRose SinkRose bytes before after status = (files : Files) (plan : List Fragment) → told ≡ Some files
+    → plan_of bytes ≡ Ok plan → ¬ StoreRose → ¬ SinkRose → IsComplete files plan before after status
+
+-- where the words are good, source and files are told and neither source, store nor sink fails, the results
+-- of a plan are written
+abbrev pub Completes : Call → Type 0 → Option (List ℕ) → Option (List ℕ) → Status → Type 0
+Completes call SinkRose before after status = (files : Files) (options : Options) (all : List ℕ) (plan : List Fragment)
+    → AreGood call.words options → call.left ≡ Some all → plan_of all ≡ Ok plan → call.told ≡ Some files
+    → ¬ Rose call.plan_faults call.plan_faults' → ¬ Rose call.store_faults call.store_faults' → ¬ SinkRose → IsComplete files plan before after status

@@ -8,4 +8,5 @@ use Rattle.data_path.specs.StatusCode.{write_fault_code}
 -- exit status of a write fault.
 pub data WrittenOwn (before after : Option (List ℕ)) (faults faults' : ℕ) (line : List ℕ) (code : ℕ) : ℕ → Type 0 where
   whole : Extended before after line → WrittenOwn before after faults faults' line code code
-  failed : (n : ℕ) → n ≤ length line → Extended before after (take n line) → Rose faults faults' → WrittenOwn before after faults faults' line code write_fault_code
+  failed : (n : ℕ) → n ≤ length line → Extended before after (take n line) → Rose faults faults'
+      → WrittenOwn before after faults faults' line code write_fault_code

@@ -1,5 +1,7 @@
 -- Reading a plan's bytes.
 use Rattle.std.specs.Prelude.{◌≡◌, ◌≤◌, ℕ, List, [], ◌++◌, length, take, drop, Option, Some, Result, Ok, Err}
+use Rattle.fragment_plan.specs.declared.fragment.Fragment.{Fragment}
+use Rattle.fragment_plan.specs.Plan.{plan_of}
 use Rattle.data_path.specs.declared.plan_bytes.PlanError.{PlanError}
 use Rattle.data_path.specs.declared.plan_bytes.PlanError.TheVariants.{Fault, NoMemory}
 
@@ -20,3 +22,14 @@ abbrev pub GaveNext : Option (List ℕ) → Option (List ℕ) → ℕ → List �
 GaveNext before after n old new =
     (told : List ℕ) → before ≡ Some told
     → (n ≤ length told) × (new ≡ old ++ take n told) × (after ≡ Some (drop n told)) × (n ≡ 0 → told ≡ [])
+
+-- the most bytes that are read of a plan: one more than a plan has at most
+abbrev pub most_read : ℕ
+most_read = 1048577
+
+-- What a call read of a plan's source: where what was left is told, the first bytes of it, which are read as all of it; and a plan that
+-- is read was read to its end.
+pub record TookPlan (left left' : Option (List ℕ)) (bytes : List ℕ) : Type 0 where
+  pub front : GaveFront left left' most_read bytes
+  pub same : (all : List ℕ) → left ≡ Some all → plan_of all ≡ plan_of bytes
+  pub whole : (plan : List Fragment) (all : List ℕ) → plan_of bytes ≡ Ok plan → left ≡ Some all → (bytes ≡ all) × (left' ≡ Some [])

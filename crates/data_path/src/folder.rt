@@ -3,8 +3,8 @@ ghost use Rattle.std.specs.Prelude.{IfOk};
 ghost use Rattle.outside.specs.Folder.{AreNames};
 
 use crate::names::in_order;
-use crate::sum_plan::is_file_name;
 use outside::{Name, NoMemory};
+use plan_words::is_file_name;
 use std::alloc::{AllocError, AllocFailed};
 use std::{fs, io};
 

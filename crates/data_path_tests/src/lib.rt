@@ -8,12 +8,16 @@ mod damaged;
 #[cfg(test)]
 mod files;
 #[cfg(test)]
-mod lines;
-#[cfg(test)]
 mod one_file;
 #[cfg(test)]
 mod outcomes;
 #[cfg(test)]
 mod own_lines;
 #[cfg(test)]
+mod plan_bytes;
+#[cfg(test)]
+mod plans;
+#[cfg(test)]
 mod told;
+#[cfg(test)]
+mod two_files;

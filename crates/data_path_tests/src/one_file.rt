@@ -1,11 +1,14 @@
 //! Calls of the top call over one file in memory, whose store tells nothing.
 ghost use Rattle.std.specs.Prelude.{◌≡◌, ◌≤◌, ◌+◌, ℕ, List, [], ◌∷◌, length, Option, None, OnOk, OnErr, slice_range};
+ghost use Rattle.std.specs.Prelude.{IfSome};
 ghost use Rattle.outside.specs.Cause.{HasCause};
+ghost use Rattle.command_line.specs.Options.{AreInRange};
 ghost use Rattle.outside.specs.Files.{HasBytes, IsFile, range_of};
 ghost use Rattle.outside.specs.Told.{Extended};
 ghost use Rattle.outside.specs.declared.file_ref.FileRange.{FileRange};
 
-use data_path::llapd;
+use command_line::{Options, options};
+use data_path::{alone, llapd};
 use outside::{Bytes, Failed, FileRef, MemorySink, MemorySource, OpenGate, RealWorld, Store};
 use std::alloc::Global;
 
@@ -67,7 +70,7 @@ fn source_of(alloc: Global, plan: &str, failing: u64) -> Option<MemorySource> {
 }
 
 fn sink_of(alloc: Global, failing: u64) -> Option<MemorySink> {
-    MemorySink::new(alloc, [failing].to_vec(alloc).ok()?, 200).ok()
+    MemorySink::new(alloc, [failing].to_vec(alloc).ok()?, 2000).ok()
 }
 
 /// Makes the call over a store of its one file, and answers its exit status.
@@ -89,6 +92,28 @@ pub fn answers(alloc: Global, call: &Call<'_>, code: u8, text: &str) -> bool {
     };
     let answered = run(alloc, call, &mut source, &mut sink);
     answered == code && sink.written() == Some(text.as_bytes())
+}
+
+fn no_words(alloc: Global) -> Option<Options>
+    ensures { IfSome result AreInRange }
+{
+    match options(alloc, &[]) {
+        Ok(options) => Some(options),
+        Err(_) => None,
+    }
+}
+
+/// Whether a plan over that file, run by `alone`, ends with that exit status, and writes just that text.
+pub fn prints(alloc: Global, file: &[u8], plan: &[u8], code: u8, text: &str) -> bool {
+    let Some(mut sink) = sink_of(alloc, 0) else {
+        return false;
+    };
+    let Some(options) = no_words(alloc) else {
+        return false;
+    };
+    let mut store = OneFile { bytes: file };
+    let status = alone::<RealWorld, _, _>(alloc, &options, plan, &mut store, &mut sink);
+    status.code() == code && sink.written() == Some(text.as_bytes())
 }
 
 /// Whether the fragment `s`, which sums the file's column `x`, writes that text, and the exit status fits it.

@@ -1,24 +1,28 @@
-//! The lines of outcomes, and the words of faults.
-use data_path::{Outcome, bad_plan_line, line_of};
+//! The line of each outcome of a fragment, and the words of faults.
+use fragment_outcome::{Answer, Failure, Outcome, write_result};
+use fragment_plan::read_plan;
 use orc_columns::{ColumnFault, StreamName};
 use orc_proto::WireFault;
 use orc_tail::TailFault;
-use outside::{Bytes, Name, RunFault};
+use outside::{Bytes, MemorySink, RunFault};
 use std::alloc::Global;
 
-fn name_of(alloc: Global, text: &str) -> Option<Name> {
-    Some(Name::new(String::from_str(alloc, text).ok()?))
+/// What is written of an outcome of the fragment `s`.
+fn line_is(alloc: Global, outcome: &Outcome, text: &str) -> Option<bool> {
+    let plan = read_plan(alloc, b"s count from t.orc").ok()?;
+    let mut sink = MemorySink::new(alloc, Vec::new(alloc), 200).ok()?;
+    write_result(&plan, 0, outcome, &mut sink).ok()?;
+    Some(sink.written()? == text.as_bytes())
 }
 
-/// Whether the outcome of the fragment `s` has that line.
+/// Whether the outcome has that line.
 fn has_line(alloc: Global, outcome: Outcome, text: &str) -> bool {
-    let Some(name) = name_of(alloc, "s") else {
-        return false;
-    };
-    match line_of(alloc, &name, &outcome) {
-        Ok(line) => line.as_slice() == text.as_bytes(),
-        Err(_) => false,
-    }
+    line_is(alloc, &outcome, text) == Some(true)
+}
+
+/// Whether the failure has that line.
+fn fails_so(alloc: Global, failure: Failure, text: &str) -> bool {
+    has_line(alloc, Outcome::Failure(failure), text)
 }
 
 const SUMS: [(Option<i64>, &str); 5] = [
@@ -31,7 +35,7 @@ const SUMS: [(Option<i64>, &str); 5] = [
 
 fn sums_have_lines(alloc: Global) -> bool {
     for (sum, text) in &SUMS {
-        if !has_line(alloc, Outcome::Sum(*sum), text) {
+        if !has_line(alloc, Outcome::Answer(Answer::Sum(*sum)), text) {
             return false;
         }
     }
@@ -39,17 +43,17 @@ fn sums_have_lines(alloc: Global) -> bool {
 }
 
 fn failures_have_lines(alloc: Global) -> bool {
-    has_line(alloc, Outcome::NoFile, "s failed no file\n")
-        && has_line(alloc, Outcome::Compressed(2), "s failed compressed 2\n")
-        && has_line(alloc, Outcome::ReadFault, "s failed read fault\n")
-        && has_line(alloc, Outcome::Overflow, "s failed overflow\n")
+    fails_so(alloc, Failure::NoFile, "s failed no file\n")
+        && fails_so(alloc, Failure::Compressed(2), "s failed compressed 2\n")
+        && fails_so(alloc, Failure::ReadFault, "s failed read fault\n")
+        && fails_so(alloc, Failure::Overflow, "s failed overflow\n")
 }
 
 fn a_column_is_named(alloc: Global) -> bool {
     match b"y".as_slice().to_vec(alloc) {
         Ok(column) => {
-            let outcome = Outcome::NoColumn(Bytes::new(column));
-            has_line(alloc, outcome, "s failed no column y\n")
+            let failure = Failure::NoColumn(Bytes::new(column));
+            fails_so(alloc, failure, "s failed no column y\n")
         }
         Err(_) => false,
     }
@@ -59,7 +63,6 @@ fn a_column_is_named(alloc: Global) -> bool {
 fn lines_are_as_written(rt: HostRuntime) {
     let alloc = rt.alloc();
     assert!(rt; sums_have_lines(alloc) && failures_have_lines(alloc) && a_column_is_named(alloc));
-    assert!(rt; bad_plan_line() == b"plan not built\n".as_slice());
 }
 
 /// Faults of a tail and of a stripe's footer, and the line of each of the two.
@@ -108,11 +111,11 @@ const TAIL_FAULTS: [(TailFault, &str, &str); 8] = [
 
 fn tail_faults_have_words(alloc: Global) -> bool {
     for (fault, tail, footer) in &TAIL_FAULTS {
-        let broken = Outcome::BrokenFooter {
+        let broken = Failure::BrokenFooter {
             stripe: 12,
             fault: *fault,
         };
-        if !has_line(alloc, Outcome::BrokenTail(*fault), tail) || !has_line(alloc, broken, footer) {
+        if !fails_so(alloc, Failure::BrokenTail(*fault), tail) || !fails_so(alloc, broken, footer) {
             return false;
         }
     }
@@ -161,12 +164,12 @@ const COLUMN_FAULTS: [(ColumnFault, &str); 8] = [
 
 fn column_faults_have_words(alloc: Global) -> bool {
     for (fault, text) in &COLUMN_FAULTS {
-        let broken = Outcome::BrokenColumn {
+        let broken = Failure::BrokenColumn {
             stripe: 12,
             column: 3,
             fault: *fault,
         };
-        if !has_line(alloc, broken, text) {
+        if !fails_so(alloc, broken, text) {
             return false;
         }
     }

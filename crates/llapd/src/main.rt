@@ -1,12 +1,15 @@
 //! The program: makes the real objects and calls the data path, which does all that matters.
 #![tactic(auto)]
 
-use data_path::{FolderError, Status, file_names, llapd, own_line, usage_line, written};
+use command_line::{page_asked_for, usage_line};
+use data_path::{FolderError, Status, file_names, llapd, own_line, written};
 use outside::{FolderStore, OpenGate, RealWorld, Sink, StdinSource, StdoutSink};
 use std::process::ExitCode;
 use std::{env, io};
 
-/// Exit statuses that are `main`'s own.
+/// Exit statuses that are `main`'s own, but the first.
+const DONE: u8 = 0;
+
 const FOLDER_FAULT: u8 = 6;
 
 const NO_MEMORY: u8 = 7;
@@ -47,13 +50,16 @@ fn program_words(rt: HostRuntime) -> Result<Vec<String>, WordsError> {
     Ok(words)
 }
 
-/// Runs the program on these words, and answers its exit status.
+/// Runs the program on these words, and answers its exit status. Words that ask for a page have it, and nothing else is done.
 fn run_words<K: Sink>(rt: HostRuntime, words: &[String], out: &mut K) -> u8 {
     let mut lent = Vec::new(rt.alloc());
     for word in words {
         if lent.push(word.as_str()).is_err() {
             return NO_MEMORY;
         }
+    }
+    if let Some(page) = page_asked_for(lent.as_slice()) {
+        return own_line(out, page, DONE);
     }
     let names = match file_names(rt) {
         Ok(names) => names,

@@ -1,5 +1,4 @@
-use Rattle.std.proofs.Common.{refl, subst, sym, ℕ}
-use Rattle.data_path.specs.OwnLine.{WrittenOwn}
+use Rattle.std.proofs.Common.{refl}
 use Rattle.data_path.specs.OwnLine.WrittenOwn.{whole, failed}
 use Rattle.data_path.proofs.own_lines.own_line.Goals as goal
 

@@ -1,53 +1,70 @@
-use Rattle.std.proofs.Common.{map, refl}
-use Rattle.data_path.proofs.Answering.{usage_answers, bad_plan_answers, ran_answers, not_true}
+use Rattle.std.proofs.Common.{◌≡◌, refl, ap, sym, subst, Err, List, ℕ, map}
+use Rattle.outside.specs.Cause.{Rose}
+use Rattle.command_line.specs.Pages.{usage_text}
+use Rattle.data_path.specs.declared.status.Status.TheVariants.{Usage}
+use Rattle.data_path.specs.Headline.{Call, IsUnread, Prints, Writes}
+use Rattle.data_path.specs.Headline.Writes.{usage, planned}
+use Rattle.data_path.specs.PlanBytes.{TookPlan}
+use Rattle.data_path.proofs.Answering.{answers_more, completes, written_answers}
+use Rattle.data_path.proofs.TookPlan.{took_plan}
 use Rattle.data_path.proofs.run.llapd.Goals as goal
 
-pub returns-then-not-are_good : goal.returns-then-not-are_good
-returns-then-not-are_good g c =
-    usage_answers (record {
+pub returns-in-Err-Usage-clause-answers : goal.returns-in-Err-Usage-clause-answers
+returns-in-Err-Usage-clause-answers g c =
+    let source = c.args.plan.now in
+    let last = c.args.last.now in
+    let call : Call = record {
       told = g.W.World.files;
       words = map (λ word. word.now) c.args.words.now;
-      left = g.P.Source.left c.args.plan.now;
-      left' = g.P.Source.left c.args.plan.now;
-      plan_faults = g.P.Source.fault_count c.args.plan.now;
-      plan_faults' = g.P.Source.fault_count c.args.plan.now;
-      store_faults = g.S.Store.fault_count c.args.last.now;
-      store_faults' = g.S.Store.fault_count c.args.last.now;
-      sink_faults = g.K.Sink.fault_count c.args.out.now;
-      sink_faults' = g.K.Sink.fault_count c.written.new.out;
-    }) (g.K.Sink.content c.args.out.now) (g.K.Sink.content c.written.new.out)
-    c.usage_line.result.now c.written.result c.usage_line.ensures (λ good. not_true (c.if-not-are_good.ensures.1 good)) refl refl c.written.ensures
+      left = g.P.Source.left source;
+      left' = g.P.Source.left source;
+      plan_faults = g.P.Source.fault_count source;
+      plan_faults' = g.P.Source.fault_count source;
+      store_faults = g.S.Store.fault_count last;
+      store_faults' = g.S.Store.fault_count last;
+    } in
+    written_answers (Writes call (source ≡ source) (last ≡ last)) (IsUnread call (last ≡ last)) (g.K.Sink.content c.args.out.now) (g.K.Sink.content c.written.new.out)
+    (g.K.Sink.fault_count c.args.out.now) (g.K.Sink.fault_count c.written.new.out) usage_text Usage c.written.result tt
+    (usage (c.in-Err-Usage.ensures.usage (ap Err c.in-Err-Usage.field-0-is)) refl refl) (rw c.usage_line.ensures at c.written.ensures)
 
-pub returns-in-Ok-Some : goal.returns-in-Ok-Some
-returns-in-Ok-Some g c =
-    ran_answers (record {
+pub returns-in-Ok-read_all-clause-answers : goal.returns-in-Ok-read_all-clause-answers
+returns-in-Ok-read_all-clause-answers g c =
+    let source = c.args.plan.now in
+    let source' = c.read_all.new.plan in
+    let last = c.args.last.now in
+    let last' = c.alone.new.last in
+    let call : Call = record {
       told = g.W.World.files;
       words = map (λ word. word.now) c.args.words.now;
-      left = g.P.Source.left c.args.plan.now;
-      left' = g.P.Source.left c.read_all.new.plan;
-      plan_faults = g.P.Source.fault_count c.args.plan.now;
-      plan_faults' = g.P.Source.fault_count c.read_all.new.plan;
-      store_faults = g.S.Store.fault_count c.args.last.now;
-      store_faults' = g.S.Store.fault_count c.run_plan.new.last;
-      sink_faults = g.K.Sink.fault_count c.args.out.now;
-      sink_faults' = g.K.Sink.fault_count c.run_plan.new.out;
-    }) (g.K.Sink.content c.args.out.now) (g.K.Sink.content c.run_plan.new.out)
-    c.in-Ok.bytes c.in-Ok-Some.plan.name c.in-Ok-Some.plan.column c.in-Ok-Some.plan.file c.run_plan.result (c.if-not-are_good.ensures.0 refl) c.in-Ok.ensures.read
-    (rw (c.in-Ok-Some.field-0-is, c.as_slice.ensures) at c.in-Ok-Some.ensures) c.run_plan.ensures
+      left = g.P.Source.left source;
+      left' = g.P.Source.left source';
+      plan_faults = g.P.Source.fault_count source;
+      plan_faults' = g.P.Source.fault_count source';
+      store_faults = g.S.Store.fault_count last;
+      store_faults' = g.S.Store.fault_count last';
+    } in
+    let took : TookPlan (g.P.Source.left source) (g.P.Source.left source') c.as_slice.result.now =
+    subst (λ (bytes : List ℕ). TookPlan (g.P.Source.left source) (g.P.Source.left source') bytes) (sym c.as_slice.ensures)
+    (took_plan (g.P.Source.left source) (g.P.Source.left source') c.in-Ok-read_all.bytes c.in-Ok-read_all.ensures.read) in
+    answers_more (Prints g.W.World.files (g.S.Store.fault_count last) (g.S.Store.fault_count last') (last' ≡ last) c.as_slice.result.now)
+    (Writes call (source' ≡ source) (last' ≡ last)) (Rose (g.K.Sink.fault_count c.args.out.now) (g.K.Sink.fault_count c.alone.new.out)) ⊥ (IsUnread call (last' ≡ last))
+    (g.K.Sink.content c.args.out.now) (g.K.Sink.content c.alone.new.out) c.alone.result
+    (λ status text prints. planned c.in-Ok.ensures.ok took prints) (λ x. absurd x) c.alone.ensures.answers
 
-pub returns-in-Ok-None : goal.returns-in-Ok-None
-returns-in-Ok-None g c =
-    bad_plan_answers (record {
+pub returns-in-Ok-read_all-clause-complete : goal.returns-in-Ok-read_all-clause-complete
+returns-in-Ok-read_all-clause-complete g c =
+    let source = c.args.plan.now in
+    let source' = c.read_all.new.plan in
+    let last = c.args.last.now in
+    let last' = c.alone.new.last in
+    completes c.quiet_runs_mean_the_plan.ensures c.words_mean_one_thing.ensures (record {
       told = g.W.World.files;
       words = map (λ word. word.now) c.args.words.now;
-      left = g.P.Source.left c.args.plan.now;
-      left' = g.P.Source.left c.read_all.new.plan;
-      plan_faults = g.P.Source.fault_count c.args.plan.now;
-      plan_faults' = g.P.Source.fault_count c.read_all.new.plan;
-      store_faults = g.S.Store.fault_count c.args.last.now;
-      store_faults' = g.S.Store.fault_count c.args.last.now;
-      sink_faults = g.K.Sink.fault_count c.args.out.now;
-      sink_faults' = g.K.Sink.fault_count c.written-in-Ok-None.new.out;
-    }) (g.K.Sink.content c.args.out.now) (g.K.Sink.content c.written-in-Ok-None.new.out)
-    c.in-Ok.bytes c.bad_plan_line.result.now c.written-in-Ok-None.result c.bad_plan_line.ensures (c.if-not-are_good.ensures.0 refl) c.in-Ok.ensures.read
-    (rw (c.in-Ok-None.field-0-is, c.as_slice.ensures) at c.in-Ok-None.ensures) c.written-in-Ok-None.ensures
+      left = g.P.Source.left source;
+      left' = g.P.Source.left source';
+      plan_faults = g.P.Source.fault_count source;
+      plan_faults' = g.P.Source.fault_count source';
+      store_faults = g.S.Store.fault_count last;
+      store_faults' = g.S.Store.fault_count last';
+    }) (source' ≡ source) (last' ≡ last) (Rose (g.K.Sink.fault_count c.args.out.now) (g.K.Sink.fault_count c.alone.new.out))
+    (g.K.Sink.content c.args.out.now) (g.K.Sink.content c.alone.new.out) c.alone.result (returns-in-Ok-read_all-clause-answers g c)

@@ -1,0 +1,14 @@
+use Rattle.std.proofs.lemmas.Result.{IfOk-weaker}
+use Rattle.std.specs.Prelude.{◌≡◌, Some}
+use Rattle.fragment_plan.specs.declared.fragment.Scan.{Scan}
+use Rattle.fragment_folds.specs.Scans.{scan_at}
+use Rattle.fragment_scan.specs.Outcomes.{IsOutcomeFor}
+use Rattle.plan_run.specs.Words.{ScanHasWords}
+use Rattle.data_path.proofs.ScanWords.{scan_words}
+use Rattle.data_path.proofs.store_scanner.StoreScannerScanner.scan.Goals as goal
+
+pub returns-clause-worded : goal.returns-clause-worded
+returns-clause-worded g c =
+    let found = scan_at c.args.plan.now c.args.fragment in
+    IfOk-weaker c.scan.result (λ o. (scan : Scan) → found ≡ Some scan → IsOutcomeFor scan o) ScanHasWords
+    (λ o is. scan_words found o c.requires.is_scan is) c.scan.ensures.is_for
