@@ -1,0 +1,4 @@
+pub mod Folding
+pub mod Wholes
+pub mod Parts
+pub mod PostScripts
