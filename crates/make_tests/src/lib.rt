@@ -4,4 +4,8 @@
 #[cfg(test)]
 mod columns;
 #[cfg(test)]
+mod disk;
+#[cfg(test)]
 mod runs;
+#[cfg(test)]
+mod tails;

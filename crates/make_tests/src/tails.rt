@@ -1,0 +1,93 @@
+//! Tails and stripe footers that are written: byte for byte, and read back.
+use crate::disk::{Disk, file_of};
+use footer_writer::{StreamPart, write_stripe_footer};
+use orc_tail::{Encoding, Stripe, column_named, read_tail};
+use outside::Bytes;
+use std::alloc::Global;
+use tail_writer::{FileColumn, write_tail};
+
+/// One LONG column `x`, DIRECT, and one stripe of 100 rows.
+const FILE: [u8; 68] = [
+    0x4F, 0x52, 0x43, 0x61, 0x00, 0x07, 0x0A, 0x06, 0x08, 0x01, 0x10, 0x01, 0x18, 0x03, 0x12, 0x02,
+    0x08, 0x00, 0x12, 0x02, 0x08, 0x00, 0x1A, 0x0A, 0x08, 0x03, 0x10, 0x00, 0x18, 0x03, 0x20, 0x10,
+    0x28, 0x64, 0x22, 0x08, 0x08, 0x0C, 0x12, 0x01, 0x01, 0x1A, 0x01, 0x78, 0x22, 0x02, 0x08, 0x04,
+    0x30, 0x64, 0x08, 0x1C, 0x10, 0x00, 0x22, 0x02, 0x00, 0x0C, 0x28, 0x00, 0x82, 0xF4, 0x03, 0x03,
+    0x4F, 0x52, 0x43, 0x11,
+];
+
+const STRIPE: Stripe = Stripe {
+    at: 3,
+    index_len: 0,
+    body_len: 3,
+    footer_len: 16,
+    rows: 100,
+};
+
+const DIRECT: Encoding = Encoding {
+    kind: 0,
+    dictionary_size: 0,
+};
+
+const DATA: StreamPart = StreamPart {
+    kind: 1,
+    column: 1,
+    len: 3,
+};
+
+/// Adds a column of that name and kind, with a child of each of these kinds.
+fn push_column(
+    alloc: Global,
+    columns: &mut Vec<FileColumn>,
+    name: &[u8],
+    kind: u64,
+    children: &[u64],
+) -> Option<()> {
+    let column = FileColumn {
+        name: Bytes::new(Vec::from_slice(alloc, name).ok()?),
+        kind,
+        children: Vec::from_slice(alloc, children).ok()?,
+    };
+    columns.push(column).ok()
+}
+
+/// Whether the worked file's stripe footer and its tail are written as it has them.
+fn parts_are_written(alloc: Global) -> Option<bool> {
+    let mut columns = Vec::new(alloc);
+    push_column(alloc, &mut columns, b"x", 4, &[])?;
+    let footer = write_stripe_footer(alloc, &[DATA], &[DIRECT, DIRECT]).ok()?;
+    let tail = write_tail(alloc, &[STRIPE], &columns, 100).ok()?;
+    Some(footer.as_slice() == &FILE[6..22] && tail.as_slice() == &FILE[22..])
+}
+
+#[test]
+fn a_whole_file_is_written(rt: HostRuntime) {
+    assert!(rt; parts_are_written(rt.alloc()) == Some(true));
+}
+
+/// A file without stripes of a LONG column `x`, a LIST of LONG `l` and a STRING column `y`.
+fn file_of_lists(alloc: Global) -> Option<Vec<u8>> {
+    let mut columns = Vec::new(alloc);
+    push_column(alloc, &mut columns, b"x", 4, &[])?;
+    push_column(alloc, &mut columns, b"l", 10, &[4])?;
+    push_column(alloc, &mut columns, b"y", 7, &[])?;
+    write_tail(alloc, &[], &columns, 0).ok()
+}
+
+/// The number and the kind of the type of a column of that file.
+fn type_of(alloc: Global, name: &str) -> Option<(u32, u64)> {
+    let bytes = file_of_lists(alloc)?;
+    let mut reader = Disk { bytes: &bytes };
+    let tail = read_tail(alloc, &mut reader, file_of(&bytes)).ok()?;
+    let column = column_named(&tail, name)?;
+    Some((column.number, column.kind))
+}
+
+/// The columns, and the number and the kind of the type of each: the list's child stands between.
+const TYPES: [(&str, (u32, u64)); 3] = [("x", (1, 4)), ("l", (2, 10)), ("y", (4, 7))];
+
+#[test]
+fn columns_are_read_back(rt: HostRuntime) {
+    for (name, found) in &TYPES {
+        assert!(rt; type_of(rt.alloc(), name) == Some(*found));
+    }
+}
