@@ -1,0 +1,8 @@
+//! Puts stripes behind the bytes of an ORC file.
+//!
+//! A stripe that was put there is found at its place, with its streams and its footer, whatever follows.
+#![tactic(auto)]
+
+mod stripes;
+
+pub use stripes::{WithStripe, push_stripe};
