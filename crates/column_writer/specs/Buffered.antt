@@ -49,3 +49,16 @@ and_row buffered row = record buffered { rows = buffered.rows ++ row ∷ [] }
 abbrev pub HasRows : Buffered → Encoded → Type 0
 HasRows buffered e = (plan : ColumnPlan) → spelling_of plan.kind plan.encoding ≡ Some buffered.spelling
     → plan.dictionary_size ≡ e.dictionary_size → IsColumn plan (streams_of e) buffered.rows
+
+-- a value for each column, that may stand in it
+abbrev pub AllMayStand : List Buffered → List Value → Type 0
+AllMayStand [] [] = Unit {0}
+AllMayStand [] (value ∷ row) = ⊥
+AllMayStand (column ∷ columns) [] = ⊥
+AllMayStand (column ∷ columns) (value ∷ row) = MayStand column.spelling value × AllMayStand columns row
+
+-- columns, each with its value of a row more
+abbrev pub and_rows : List Buffered → List Value → List Buffered
+and_rows [] row = []
+and_rows (column ∷ columns) [] = column ∷ columns
+and_rows (column ∷ columns) (value ∷ row) = and_row column value ∷ and_rows columns row

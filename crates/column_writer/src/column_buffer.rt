@@ -1,5 +1,6 @@
 //! The rows of a column of a stripe, before it is written.
-ghost use Rattle.std.specs.Prelude.{◌≡◌, ◌≤◌, ◌^◌, [], length, OnOk, OnErr, IfOk, not};
+ghost use Rattle.std.specs.Prelude.{◌≡◌, ◌<◌, ◌≤◌, ◌^◌, ◌++◌, ◌∷◌, [], length, OnOk, OnErr, IfOk, not};
+ghost use Rattle.orc_values.specs.declared.value.Value.{Value};
 ghost use Rattle.orc_values.specs.Column.{is_present};
 ghost use Rattle.column_writer.specs.Buffered.{MayStand, HasRows, and_row};
 
@@ -66,6 +67,16 @@ impl ColumnBuffer {
         Ok(())
     }
 
+    /// Lets the last row go.
+    pub fn pop(&mut self, alloc: Global)
+        requires { 0 < length self.old.rows }
+        ensures { (last : Value) × (self.old ≡ and_row self.new last) }
+    {
+        if pop_flag(&mut self.flags) {
+            self.kept.pop(alloc);
+        }
+    }
+
     /// The streams of these rows: by any plan of this spelling they have just these rows.
     ///
     /// A dictionary has its entries in the order of their first use. Answers `NoMemory` where memory was refused.
@@ -82,4 +93,15 @@ fn is_null(value: &Value) -> bool
     ensures { is_present value.now ≡ not result }
 {
     matches!(value, Value::Null)
+}
+
+/// Takes the last flag.
+fn pop_flag(flags: &mut Vec<bool>) -> bool
+    requires { 0 < length flags.old.items }
+    ensures { flags.old.items ≡ flags.new.items ++ result ∷ [] }
+{
+    match flags.pop() {
+        Some(flag) => flag,
+        None => unreachable!(),
+    }
 }

@@ -1,5 +1,6 @@
 //! Values that are still to be written.
-ghost use Rattle.std.specs.Prelude.{◌≡◌, ◌++◌, ◌∷◌, [], map, OnOk, OnErr};
+ghost use Rattle.std.specs.Prelude.{◌≡◌, ◌<◌, ◌++◌, ◌∷◌, [], ℕ, ℤ, Bool, List, length, map, OnOk, OnErr};
+ghost use Rattle.orc_values.specs.declared.value.Value.{Value};
 ghost use Rattle.orc_values.specs.declared.value.Value.TheVariants as value;
 ghost use Rattle.orc_columns.specs.declared.spelling.Spelling.TheVariants as by;
 ghost use Rattle.orc_columns.specs.declared.spelling.Version.TheVariants as version;
@@ -10,6 +11,7 @@ use orc_columns::{Spelling, Version};
 use orc_values::{Texts, Value};
 use outside::NoMemory;
 use std::alloc::Global;
+use std::mem;
 
 /// The values of a column that stand, in order: a list of their type, and how they are to be spelled.
 #[derive(Drop)]
@@ -54,6 +56,43 @@ impl Kept {
             Kept::Dictionary(_, texts) => push_text(texts, row),
         }
     }
+
+    /// Lets the last value go, if there is one.
+    pub(crate) fn pop(&mut self, alloc: Global)
+        requires { 0 < length (values_in self.old) }
+        ensures spelling { spelling_in self.new ≡ spelling_in self.old }
+        ensures values { (last : Value) × (values_in self.old ≡ values_in self.new ++ last ∷ []) }
+    {
+        match self {
+            Kept::Bits(bits) => pop_bit(bits),
+            Kept::Integers(_, numbers) => pop_number(numbers),
+            Kept::Strings(_, texts) => pop_text(alloc, texts),
+            Kept::Dictionary(_, texts) => pop_text(alloc, texts),
+        }
+    }
+}
+
+fn pop_bit(bits: &mut Vec<bool>)
+    requires { 0 < length bits.old.items }
+    ensures { (last : Bool) × (bits.old.items ≡ bits.new.items ++ last ∷ []) }
+{
+    bits.pop();
+}
+
+fn pop_number(numbers: &mut Vec<i64>)
+    requires { 0 < length numbers.old.items }
+    ensures { (last : ℤ) × (numbers.old.items ≡ numbers.new.items ++ last ∷ []) }
+{
+    numbers.pop();
+}
+
+fn pop_text(alloc: Global, texts: &mut Texts)
+    requires { 0 < length texts.old }
+    ensures { (last : List ℕ) × (texts.old ≡ texts.new ++ last ∷ []) }
+{
+    let (bytes, mut ends) = mem::replace(texts, Texts::empty(alloc)).into_parts();
+    pop_end(&mut ends);
+    *texts = Texts::new(bytes, ends);
 }
 
 fn push_bit(bits: &mut Vec<bool>, row: &Value) -> Result<(), NoMemory>
@@ -93,4 +132,11 @@ fn push_text(texts: &mut Texts, row: &Value) -> Result<(), NoMemory>
         unreachable!()
     };
     texts.push(text.as_slice())
+}
+
+fn pop_end(ends: &mut Vec<usize>)
+    requires { 0 < length ends.old.items }
+    ensures { (last : ℕ) × (ends.old.items ≡ ends.new.items ++ last ∷ []) }
+{
+    ends.pop();
 }

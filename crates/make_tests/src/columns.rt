@@ -1,8 +1,9 @@
 //! The streams of columns of a stripe.
 ghost use Rattle.std.specs.Prelude.{◌≡◌, ◌+◌, ◌≤◌, ◌^◌, length, IfSome};
+ghost use Rattle.orc_columns.specs.declared.spelling.Spelling.TheVariants as by;
 ghost use Rattle.column_writer.specs.Buffered.{MayStand};
 
-use column_writer::ColumnBuffer;
+use column_writer::{ColumnBuffer, push_row};
 use orc_columns::{Spelling, Value, Version};
 use outside::Bytes;
 use std::alloc::Global;
@@ -103,7 +104,7 @@ fn push_value(buffer: &mut ColumnBuffer, value: &Value) -> Option<()>
 }
 
 /// A buffer of these rows.
-fn buffered(alloc: Global, spelling: Spelling, rows: &[i64]) -> Option<ColumnBuffer>
+pub fn buffered(alloc: Global, spelling: Spelling, rows: &[i64]) -> Option<ColumnBuffer>
     ensures { IfSome result (λ buffer. length buffer.rows ≡ length rows.now) }
 {
     let mut buffer = ColumnBuffer::new(alloc, spelling);
@@ -132,4 +133,22 @@ fn columns_are_written(rt: HostRuntime) {
     for row in &ROWS {
         assert!(rt; is_written(rt.alloc(), row) == Some(true));
     }
+}
+
+/// Columns with a row more, each of which had none: a flag, and a null.
+fn with_row(alloc: Global, flags: ColumnBuffer, numbers: ColumnBuffer) -> Option<Vec<ColumnBuffer>>
+    requires { flags.spelling ≡ by.Bits }
+{
+    let row = vec![in alloc; Value::Bool(true), Value::Null].ok()?;
+    let mut columns = vec![in alloc; flags, numbers].ok()?;
+    push_row(alloc, &mut columns, &row).ok()?;
+    Some(columns)
+}
+
+#[test]
+fn a_row_is_pushed(rt: HostRuntime) {
+    let alloc = rt.alloc();
+    let flags = ColumnBuffer::new(alloc, Spelling::Bits);
+    let numbers = ColumnBuffer::new(alloc, Spelling::Integers(Version::Two));
+    assert!(rt; with_row(alloc, flags, numbers).is_some());
 }

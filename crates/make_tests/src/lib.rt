@@ -8,4 +8,6 @@ mod disk;
 #[cfg(test)]
 mod runs;
 #[cfg(test)]
+mod stripes;
+#[cfg(test)]
 mod tails;

@@ -22,4 +22,5 @@ pub record IsSplit (bytes : List ℕ) (held bits number total : ℕ) : Type 0 wh
 
 -- whole bytes of a number were added, and fewer than eight bits of it are held
 abbrev pub AddsBits : List ℕ → List ℕ → ℕ → ℕ → ℕ → ℕ → Type 0
-AddsBits before after number total held bits = (bytes : List ℕ) × (after ≡ before ++ bytes) × IsSplit bytes held bits number total × (bits < 8)
+AddsBits before after number total held bits =
+    (bytes : List ℕ) × (after ≡ before ++ bytes) × IsSplit bytes held bits number total × (bits < 8)

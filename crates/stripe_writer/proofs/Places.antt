@@ -1,6 +1,6 @@
 -- Where streams lie, and which are a column's.
-use Rattle.std.proofs.Common.{◌≡◌, ◌≢◌, ℕ, zero, suc, ◌+◌, ◌-◌, ◌<◌, ◌≤◌, Bool, true, false, eqb, List, [], ◌∷◌, ◌++◌, length, map, take, drop, get_or, Option, Some, None, refl, sym, ap, subst, ◌∙◌, arith, append_assoc, append-nil, length-append}
-use Rattle.std.specs.Prelude.{All, slice_get, slice_range, if◌then◌else◌, ◌==◌, ◌&&◌}
+use Rattle.std.proofs.Common.{◌≡◌, ◌≢◌, ℕ, zero, suc, ◌+◌, ◌-◌, ◌<◌, ◌≤◌, Bool, true, false, eqb, List, [], ◌∷◌, ◌++◌, length, map, take, drop, get_or, Option, Some, refl, sym, ap, subst, ◌∙◌, arith, append_assoc, append-nil, length-append}
+use Rattle.std.specs.Prelude.{slice_range, if◌then◌else◌, ◌==◌, ◌&&◌}
 use Rattle.std.proofs.Math.Seq.{take-append_seam, drop-append_seam}
 use Rattle.std.proofs.lemmas.Bool.{cases_eq, eq-eqb, ne_eqb}
 use Rattle.std.proofs.Common.{inl, inr}
@@ -24,14 +24,11 @@ use Rattle.orc_columns.specs.Column.{Streams, ArePresent, AreLengths, AreNumbers
 use Rattle.orc_columns.specs.Spelling.{spelling_of}
 use Rattle.orc_streams.specs.declared.layout.ReadColumn.{ReadColumn}
 use Rattle.orc_streams.specs.declared.layout.ColumnLayout.{ColumnLayout}
-use Rattle.orc_streams.specs.declared.layout.Span.{Span}
 use Rattle.orc_streams.specs.Layout.{kinds_used, span_of, stored, span_bytes, laid_out, laid_out_by, layout_in, streams_in, plan_at}
 use Rattle.orc_rows.specs.Rows.{HasValues}
-use Rattle.column_writer.specs.declared.encoded.Encoded.{Encoded}
-use Rattle.column_writer.specs.Buffered.{Buffered, HasRows}
 use Rattle.column_writer.specs.Encoded.{streams_of}
 use Rattle.stripe_writer.specs.declared.stream_bytes.StreamBytes.{StreamBytes}
-use Rattle.stripe_writer.specs.Parts.{body_of, listed, first_bytes, and_stream, and_column, HasNone, HasStreams}
+use Rattle.stripe_writer.specs.Parts.{body_of, listed, first_bytes, and_stream, HasNone, HasStreams}
 use Rattle.stripe_writer.specs.Laws.{ColumnIsAdded, OthersStay, ColumnIsThere, ColumnsAreThere}
 
 -- ---- where a stream lies

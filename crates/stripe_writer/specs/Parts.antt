@@ -93,4 +93,5 @@ rows_in (c ∷ columns) = c.buffered.rows ∷ rows_in columns
 
 -- a buffer's streams were added for the column of that number, whose dictionary has so many entries
 abbrev pub AddsBuffer : List StreamBytes → List StreamBytes → ℕ → Buffered → ℕ → Type 0
-AddsBuffer before after column buffered size = (e : Encoded) × HasRows buffered e × (e.dictionary_size ≡ size) × (after ≡ and_column before column e)
+AddsBuffer before after column buffered size =
+    (e : Encoded) × HasRows buffered e × (e.dictionary_size ≡ size) × (after ≡ and_column before column e)
