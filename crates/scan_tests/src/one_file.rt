@@ -5,10 +5,10 @@ ghost use Rattle.outside.specs.Files.{HasBytes, IsFile, range_of};
 ghost use Rattle.outside.specs.Told.{Extended};
 ghost use Rattle.outside.specs.declared.file_ref.FileRange.{FileRange};
 
-use fragment_outcome::write_result;
-use fragment_plan::{Work, read_plan};
+use fragment_outcome::{Outcome, write_result};
+use fragment_plan::{Plan, Work, read_plan};
 use fragment_scan::scan;
-use outside::{Failed, FileRef, MemorySink, RealWorld, Store};
+use outside::{Failed, FileRef, MemorySink, RealWorld, Store, World};
 use std::alloc::Global;
 
 /// The bytes of the file `t.orc`, the place and the length of each read of them that was made, and how many are made before one fails.
@@ -58,6 +58,25 @@ impl<'a> Store<RealWorld> for OneFile<'a> {
     }
 }
 
+/// The outcome of the first fragment of a plan over a store, if it is a scan.
+pub fn outcome_of<W: World, S: Store<W>>(
+    alloc: Global,
+    store: &mut S,
+    plan: &Plan,
+) -> Option<Outcome> {
+    match &plan.fragments().first()?.work {
+        Work::Scan(_) => scan(alloc, store, plan, 0).ok(),
+        Work::Merge(_) => None,
+    }
+}
+
+/// What is printed of a plan's first fragment with that outcome.
+fn printed(alloc: Global, plan: &Plan, outcome: &Outcome) -> Option<MemorySink> {
+    let mut sink = MemorySink::new(alloc, Vec::new(alloc), 400).ok()?;
+    write_result(plan, 0, outcome, &mut sink).ok()?;
+    Some(sink)
+}
+
 /// What is printed of the first fragment of a plan, which scans the file of these digits, and the reads that it made, of which so many
 /// were made before one failed.
 pub fn scanned(
@@ -68,16 +87,12 @@ pub fn scanned(
 ) -> Option<(MemorySink, Vec<(u64, usize)>)> {
     let bytes = hex::decode(alloc, digits).ok()?;
     let plan = read_plan(alloc, plan.as_bytes()).ok()?;
-    let Work::Scan(_) = &plan.fragments().first()?.work else {
-        return None;
-    };
     let mut store = OneFile {
         bytes: bytes.as_slice(),
         reads: Vec::new(alloc),
         most,
     };
-    let outcome = scan::<RealWorld, _>(alloc, &mut store, &plan, 0).ok()?;
-    let mut sink = MemorySink::new(alloc, Vec::new(alloc), 400).ok()?;
-    write_result(&plan, 0, &outcome, &mut sink).ok()?;
+    let outcome = outcome_of::<RealWorld, _>(alloc, &mut store, &plan)?;
+    let sink = printed(alloc, &plan, &outcome)?;
     Some((sink, store.reads))
 }

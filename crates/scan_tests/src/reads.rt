@@ -60,7 +60,7 @@ const READS: [(&str, &str, &[(u64, usize)]); 5] = [
 fn reads_up_to(alloc: Global, case: &(&str, &str, &[(u64, usize)]), most: usize) -> Option<bool> {
     let (sink, made) = scanned(alloc, case.0, case.1, most)?;
     let failed = sink.written()?.ends_with(b" failed read fault\n");
-    Some(made.as_slice() == case.2.get(..most)? && failed == (most < case.2.len()))
+    Some(Some(made.as_slice()) == case.2.get(..most) && failed == (most < case.2.len()))
 }
 
 fn all_read(alloc: Global) -> bool {

@@ -2,9 +2,9 @@
 ghost use Rattle.std.specs.Prelude.{◌≡◌, Some, IfSome};
 ghost use Rattle.scan_tests.specs.Worked.{worked_files, told_are_files};
 
+use crate::one_file::outcome_of;
 use fragment_outcome::{Answer, Failure, Outcome};
-use fragment_plan::{Work, read_plan};
-use fragment_scan::scan;
+use fragment_plan::read_plan;
 use outside::{Bytes, FileRange, MemoryStore, Name, World};
 use std::alloc::Global;
 
@@ -61,16 +61,17 @@ const READS: [FileRange; 4] = [
     },
 ];
 
-/// Whether the sum over a store whose call of that number fails (0: none) is -400 or a read fault, and just the first so many reads are
-/// told.
+/// A store of that file, whose call of that number fails (0: none).
+fn store_of(alloc: Global, failing: u64) -> Option<MemoryStore<WorkedWorld>> {
+    let fails = [failing].to_vec(alloc).ok()?;
+    MemoryStore::new(alloc, files(alloc)?, fails, 8).ok()
+}
+
+/// Whether the sum over that store is -400 or a read fault, and just the first so many reads are told.
 fn tells(alloc: Global, failing: u64, reads: usize) -> Option<bool> {
     let plan = read_plan(alloc, b"s sum x from t.orc").ok()?;
-    let Work::Scan(_) = &plan.fragments().first()?.work else {
-        return None;
-    };
-    let fails = [failing].to_vec(alloc).ok()?;
-    let mut store = MemoryStore::<WorkedWorld>::new(alloc, files(alloc)?, fails, 8).ok()?;
-    let fits = match scan(alloc, &mut store, &plan, 0).ok()? {
+    let mut store = store_of(alloc, failing)?;
+    let fits = match outcome_of(alloc, &mut store, &plan)? {
         Outcome::Answer(Answer::Sum(Some(-400))) => failing == 0,
         Outcome::Failure(Failure::ReadFault) => failing > 0,
         _ => false,
