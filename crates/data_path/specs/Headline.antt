@@ -98,4 +98,5 @@ CompletesAlone told StoreRose SinkRose bytes before after status = (files : File
 abbrev pub Completes : Call → Type 0 → Option (List ℕ) → Option (List ℕ) → Status → Type 0
 Completes call SinkRose before after status = (files : Files) (options : Options) (all : List ℕ) (plan : List Fragment)
     → AreGood call.words options → call.left ≡ Some all → plan_of all ≡ Ok plan → call.told ≡ Some files
-    → ¬ Rose call.plan_faults call.plan_faults' → ¬ Rose call.store_faults call.store_faults' → ¬ SinkRose → IsComplete files plan before after status
+    → ¬ Rose call.plan_faults call.plan_faults' → ¬ Rose call.store_faults call.store_faults' → ¬ SinkRose
+    → IsComplete files plan before after status

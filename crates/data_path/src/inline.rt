@@ -33,11 +33,11 @@ fn run_over<W: World, S: Store<W>>(
 ///
 /// `options` are some that a command line can give; those of cache and threads aren't used yet.
 ///
-/// Bytes that are no plan write the line of their first fault: `BadPlan`, and the store is as it was. Else each fragment is run
-/// once, in plan order, and all results are complete before the first byte is written. Where the world tells its files, what is
-/// written is what the fragments mean, but for at most as many scans with a read fault as the faults of `last` rose by.
-/// `Done` where no fragment failed, else `SomeFailed`. `WriteFault` only where the sink's faults rose, and a front of the text was
-/// written. After `NoMemory` nothing was written. It never answers `Usage` or `PlanFault`.
+/// Bytes that are no plan write the line of their first fault: `BadPlan`, and the store is as it was. Else the results of all
+/// fragments are written, in plan order. Where the world tells its files, what is written is what the fragments mean, but for
+/// at most as many scans with a read fault as the faults of `last` rose by. `Done` where no fragment failed, else `SomeFailed`.
+/// `WriteFault` only where the sink's faults rose, and a front of the text was written. After `NoMemory` nothing was written.
+/// It never answers `Usage` or `PlanFault`.
 pub fn alone<W: World, S: Store<W>, K: Sink>(
     alloc: Global,
     _options: &Options,

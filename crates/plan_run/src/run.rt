@@ -53,7 +53,7 @@ fn with_outcome(outcomes: Vec<Outcome>, outcome: Outcome) -> Result<Vec<Outcome>
     }
 }
 
-/// Runs a plan: each scan once, by the scanner, and each merge by the outcomes of its sources, all in plan order.
+/// Runs a plan: its scans by the scanner, and its merges by the outcomes of their sources.
 ///
 /// Where the world tells its files, the outcomes are those of the plan's fragments, where just the scans that end in a read fault
 /// weren't read; and there are at most as many of these as the scanner's count of faults rose by. Refuses only for want of memory.
