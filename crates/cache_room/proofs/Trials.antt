@@ -1,9 +1,8 @@
 -- One header more was tried.
-use Rattle.std.proofs.Common.{◌≡◌, ◌≢◌, ℕ, ◌+◌, ◌-◌, ◌^◌, ◌<◌, ◌≤◌, min, Bool, true, false, List, [], ◌∷◌, ◌++◌, length, refl, sym, ap, ◌∙◌, subst, inl, inr, arith}
+use Rattle.std.proofs.Common.{◌≡◌, ◌≢◌, ℕ, ◌+◌, ◌-◌, ◌^◌, ◌<◌, ◌≤◌, min, Bool, true, false, List, [], ◌++◌, length, refl, sym, ap, ◌∙◌, subst, inl, inr, arith}
 use Rattle.std.specs.Prelude.{Option, None, Some, Ok, Err, ◌⊎◌, replicate, slice_index, slice_index_or, slice_set}
 use Rattle.std.proofs.lemmas.Bool.{cases_eq, cases_lt}
 use Rattle.std.proofs.lemmas.List.{get_or-replicate, get_or-set_other, get_or-set_same, get_or_past, length-replicate}
-use Rattle.lrfu_policy.specs.declared.entry.Entry.{Entry}
 use Rattle.lrfu_policy.specs.declared.rank.Rank.{Rank}
 use Rattle.lrfu_policy.specs.Laws.{ForgettingAddsNone, VictimsRunOut}
 use Rattle.lrfu_policy.specs.Policy.{Ranking, with_entry}
@@ -14,7 +13,7 @@ use Rattle.pool_model.specs.Content.{Files}
 use Rattle.pool_rule.specs.declared.geometry.Geometry.{Geometry}
 use Rattle.pool_rule.specs.declared.view.View.{View}
 use Rattle.pool_rule.specs.declared.word_step.WordStep.{WordStep}
-use Rattle.pool_rule.specs.declared.word_step.WordStep.TheVariants.{Granted, HeaderReleased, Missed}
+use Rattle.pool_rule.specs.declared.word_step.WordStep.TheVariants.{HeaderReleased}
 use Rattle.pool_rule.specs.Layout.{header_word, headers_of}
 use Rattle.pool_rule.specs.Seats.{granted_at, mark_at}
 use Rattle.buffer_pool.specs.declared.fault.Held.{Held}
@@ -31,7 +30,7 @@ use Rattle.cache_placement.specs.Placements.{IsFilled, IsLost, IsPlacement}
 use Rattle.cache_room.specs.declared.wanted.Wanted.{Wanted}
 use Rattle.cache_room.specs.Quiet.{AreKnown, IsQuiet, consult_releases, consult_touches, quiet_consult, quiet_held, quiet_none, quiet_out, quiet_then}
 use Rattle.cache_room.specs.Rooms.{HeadersTried, IfNoRoom, IsSetTried, IsWayFreed, MakesRoom, RoomLeft, WaysTried, counted, unless_full}
-use Rattle.cache_room.specs.Tried.{HasEnd, IsTried, last_saw, releases}
+use Rattle.cache_room.specs.Tried.{IsTried, last_saw, releases}
 use Rattle.cache_room.specs.TriedLaws.{held_end, held_releases, no_releases, out_end, out_released, out_releases, releases-append, saw_away, saw_here, touch_front, tried_back, tried_front, tried_over}
 
 abbrev pub SameMarks : View → View → Type 0

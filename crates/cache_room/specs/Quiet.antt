@@ -1,19 +1,18 @@
 -- Steps that leave a seat what it had, and each of which is right: consultations, evictions, and what else comes to nothing.
 -- Source: this project's own.
-use Rattle.std.specs.Prelude.{◌≡◌, ◌≢◌, ℕ, zero, suc, ◌+◌, ◌<◌, List, [], ◌∷◌, ◌++◌, length, ◌⊎◌, Option, None, Some, Ok, Err, Result, slice_index_or}
+use Rattle.std.specs.Prelude.{◌≡◌, ◌≢◌, ℕ, zero, suc, ◌<◌, List, [], ◌∷◌, ◌++◌, length, Option, None, Some, slice_index_or}
 use Rattle.std.proofs.Common.{refl, sym, ◌∙◌, ap, subst, inl, inr, arith}
 use Rattle.std.proofs.lemmas.Bool.{cases_eq, cases_lt}
 use Rattle.std.proofs.lemmas.List.{get_or-set_same, get_or_past, set_past}
 use Rattle.std.proofs.lemmas.Option.{none-some}
 use Rattle.buffer_word.specs.declared.key_word.Key.{Key}
-use Rattle.buffer_word.specs.KeyWord.{key_word}
 use Rattle.lrfu_policy.specs.Policy.{Ranking}
 use Rattle.pool_model.specs.declared.block.Block.{Block}
 use Rattle.pool_model.specs.declared.buffer.BufferKey.{BufferKey}
 use Rattle.pool_model.specs.Content.{Files}
 use Rattle.pool_rule.specs.declared.geometry.Geometry.{Geometry}
 use Rattle.pool_rule.specs.declared.geometry.WordName.{WordName}
-use Rattle.pool_rule.specs.declared.geometry.WordName.TheVariants.{Arena, Clock, KeyOf, Last, State, Touches}
+use Rattle.pool_rule.specs.declared.geometry.WordName.TheVariants.{KeyOf, Last, State, Touches}
 use Rattle.pool_rule.specs.declared.view.Claim.{Claim}
 use Rattle.pool_rule.specs.declared.view.Claim.TheVariants.{Unclaimed, Fresh, Gone, Carried}
 use Rattle.pool_rule.specs.declared.view.Hold.{Hold}
@@ -25,14 +24,13 @@ use Rattle.pool_rule.specs.declared.word_step.WordStep.TheVariants as step
 use Rattle.pool_rule.specs.declared.word_step.WordStep.TheVariants.{Counted, Granted, HeaderReleased, Looked, Opened, Updated}
 use Rattle.pool_rule.specs.Seats.{claim_with_key, clear_mark, granted_at, hold_with_key, key_of, mark_at, mark_with_key, noted, with_key}
 use Rattle.pool_rule.specs.WordSteps.{IsMade}
-use Rattle.buffer_pool.specs.Callers.{all_then, made_granted, made_mark}
+use Rattle.buffer_pool.specs.Callers.{made_granted, made_mark}
 use Rattle.buffer_pool.specs.Made.{AreMade, touch_steps}
-use Rattle.buffer_pool.specs.Pools.{buffer_key}
-use Rattle.cache_consult.specs.Consults.{ConsultSteps, Consults, LearnSteps, learnt, taken_before, untouched}
+use Rattle.cache_consult.specs.Consults.{ConsultSteps, LearnSteps, learnt, taken_before, untouched}
 use Rattle.cache_consult.specs.Leaving.{AreLearnSteps, IsLearnStep, consult_only, load_key, load_last, load_touches, take_touches}
 use Rattle.cache_eviction.specs.Evictions.{HeldSteps, OutSteps}
 use Rattle.cache_eviction.specs.Evictions as try
-use Rattle.cache_lookup.specs.Before.{HasNoPinOf, IsAsBefore, IsNoPinOf, SameClaims, SameHolds, bare}
+use Rattle.cache_lookup.specs.Before.{HasNoPinOf, IsAsBefore, IsNoPinOf, bare}
 use Rattle.cache_lookup.specs.Callers.{as_before, before_made, before_then, right_else, right_parts}
 use Rattle.cache_lookup.specs.Right.{AreRight, IsRight}
 use Rattle.cache_lookup.specs.Trails.{Among}

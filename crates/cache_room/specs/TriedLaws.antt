@@ -1,21 +1,19 @@
 -- For those who put lists of steps together: what is tried, released and seen in a list and then another.
-use Rattle.std.specs.Prelude.{◌≡◌, ◌≢◌, ◌==◌, ℕ, ◌+◌, ◌*◌, ◌<◌, List, [], ◌∷◌, ◌++◌, ◌⊎◌, Option, None, Some, Ok, Err, Result}
+use Rattle.std.specs.Prelude.{◌≡◌, ◌≢◌, ℕ, ◌+◌, List, [], ◌∷◌, ◌++◌, Option, None, Some}
 use Rattle.std.specs.Option.{option_or}
-use Rattle.std.proofs.Common.{refl, sym, ◌∙◌, ap, subst, inl, inr, arith, eq-eqb, ne_eqb}
+use Rattle.std.proofs.Common.{refl, sym, ◌∙◌, ap, inl, inr, arith, eq-eqb, ne_eqb}
 use Rattle.pool_model.specs.declared.block.Block.{Block}
 use Rattle.pool_rule.specs.declared.geometry.Geometry.{Geometry}
-use Rattle.pool_rule.specs.declared.geometry.WordName.TheVariants.{State}
 use Rattle.pool_rule.specs.declared.view.Event.{Event}
 use Rattle.pool_rule.specs.declared.word_step.WordStep.{WordStep}
 use Rattle.pool_rule.specs.declared.word_step.WordStep.TheVariants.{Looked, LookedAtCell, Missed, Granted, Returned, Opened, Named, Filled, Published, Counted, Uncounted, EvictBegun, HeaderReleased, Updated}
 use Rattle.pool_rule.specs.Layout.{header_word}
 use Rattle.pool_rule.specs.WordSteps.{block_in}
-use Rattle.buffer_pool.specs.declared.fault.Held.{Held}
 use Rattle.cache_lookup.specs.Trails.{Among, events}
 use Rattle.cache_lookup.specs.TrailLaws.{events-append}
 use Rattle.cache_eviction.specs.Evictions.{HeldSteps, OutSteps, TrySteps}
 use Rattle.cache_eviction.specs.Evictions as try
-use Rattle.cache_room.specs.Tried.{HasEnd, HasTouch, IsEnd, IsTried, IsTouching, gone, last_saw, lost, released_by, releases, saw_by, shown}
+use Rattle.cache_room.specs.Tried.{HasEnd, HasTouch, IsEnd, IsTried, gone, last_saw, lost, released_by, releases, saw_by, shown}
 
 -- ---- tries
 

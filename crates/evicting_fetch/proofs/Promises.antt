@@ -1,16 +1,16 @@
 -- A fetch by its parts: what its answers tell, and what they leave.
-use Rattle.std.proofs.Common.{◌≡◌, ◌≢◌, ℕ, ◌+◌, ◌-◌, ◌^◌, ◌<◌, ◌≤◌, min, List, [], ◌∷◌, ◌++◌, length, refl, sym, ap, ◌∙◌, subst, inl, inr, arith}
-use Rattle.std.specs.Prelude.{Option, Some, None, IsSomeAnd, ◌⊎◌, slice_index, slice_set}
+use Rattle.std.proofs.Common.{◌≡◌, ◌≢◌, ℕ, ◌+◌, ◌-◌, ◌^◌, ◌<◌, min, List, [], ◌∷◌, ◌++◌, length, refl, sym, ap, ◌∙◌, subst, inl, inr, arith}
+use Rattle.std.specs.Prelude.{Option, Some, IsSomeAnd, ◌⊎◌, slice_index, slice_set}
 use Rattle.std.proofs.lemmas.Bool.{cases_eq}
 use Rattle.std.proofs.lemmas.List.{append_assoc, append-nil, get_or-set_other, get_or-set_same}
 use Rattle.buffer_word.specs.declared.key_word.Key.{Key}
 use Rattle.pool_model.specs.declared.block.Block.{Block}
 use Rattle.pool_model.specs.Content.{Files}
 use Rattle.pool_rule.specs.declared.geometry.Geometry.{Geometry}
-use Rattle.pool_rule.specs.declared.geometry.WordName.TheVariants.{Arena, Clock, KeyOf, State}
+use Rattle.pool_rule.specs.declared.geometry.WordName.TheVariants.{Arena, Clock, State}
 use Rattle.pool_rule.specs.declared.view.View.{View}
 use Rattle.pool_rule.specs.declared.word_step.WordStep.{WordStep}
-use Rattle.pool_rule.specs.declared.word_step.WordStep.TheVariants.{EvictBegun, Granted, HeaderReleased, Looked, Missed, Opened, Updated}
+use Rattle.pool_rule.specs.declared.word_step.WordStep.TheVariants.{EvictBegun, Granted, HeaderReleased, Missed, Opened, Updated}
 use Rattle.pool_rule.specs.Layout.{clock_word, header_word, headers_of}
 use Rattle.pool_rule.specs.WordSteps.{IsMade}
 use Rattle.buffer_pool.specs.declared.token.Pin.{Pin}
@@ -33,16 +33,16 @@ use Rattle.cache_placement.specs.Placements.{HasNoRoom, IsArenaRaced, IsHeaderRa
 use Rattle.cache_placement.specs.Placements as placement
 use Rattle.cache_room.specs.declared.wanted.Wanted.{Wanted}
 use Rattle.cache_room.specs.Quiet.{IsQuiet, quiet_then, quiet_updated, touch_before, touch_right}
-use Rattle.cache_room.specs.Rooms.{IfNoRoom, IsRoom, IsSetTried, IsWayFreed, MakesRoom, counted, in_free, in_freed, in_none, with_freed}
+use Rattle.cache_room.specs.Rooms.{IfNoRoom, IsRoom, IsSetTried, IsWayFreed, counted, in_free, in_freed, in_none}
 use Rattle.cache_room.specs.Tried.{IsTried, last_saw, releases}
 use Rattle.cache_room.specs.TriedLaws.{last_saw-back, no_releases, releases-append, tried_back, tried_front}
 use Rattle.range_cache.specs.declared.ranged.Grip.TheVariants as grip
 use Rattle.range_cache.specs.declared.ranged.How.TheVariants.{Hit, Filled, Bypass}
 use Rattle.range_cache.specs.Callers.{leaves_then}
 use Rattle.range_cache.specs.Exact.{IsInNoWay}
-use Rattle.range_cache.specs.Fetches.{IsFilled, IsLost, IsNowhere}
+use Rattle.range_cache.specs.Fetches.{IsLost, IsNowhere}
 use Rattle.range_cache.specs.Ranges.{ranged_by}
-use Rattle.evicting_fetch.specs.Fetches.{IsEarly, IsFailedFetch, IsFetch, IsLooked, IsNoRoom, IsSetFull, IsWayRaced, Tells, next_tick, ticked}
+use Rattle.evicting_fetch.specs.Fetches.{IsEarly, IsFailedFetch, IsFetch, IsLooked, IsWayRaced, Tells, next_tick, ticked}
 
 -- ---- the steps of a look-up
 

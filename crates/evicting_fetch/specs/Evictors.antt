@@ -1,5 +1,5 @@
 -- What callers see of what decides evictions.
-use Rattle.std.specs.Prelude.{◌≡◌, ℕ, List, length}
+use Rattle.std.specs.Prelude.{◌≡◌, length}
 use Rattle.lrfu_policy.specs.Policy.{Ranking}
 use Rattle.pool_rule.specs.Layout.{headers_of}
 use Rattle.buffer_pool.specs.declared.pool.Pool.{Pool}

@@ -28,7 +28,7 @@ pub(crate) const HIT: u64 = 100;
 
 pub(crate) const FILLED: u64 = 200;
 
-const OTHER: u64 = 300;
+pub(crate) const OTHER: u64 = 300;
 
 const FAILED: u64 = 400;
 

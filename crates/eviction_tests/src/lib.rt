@@ -4,8 +4,12 @@
 #[cfg(test)]
 mod fetches;
 #[cfg(test)]
+mod held;
+#[cfg(test)]
 mod pattern;
 #[cfg(test)]
 mod plain;
 #[cfg(test)]
 mod random;
+#[cfg(test)]
+mod totals;

@@ -1,5 +1,4 @@
-use Rattle.std.proofs.Common.{ℕ, sym, ap, ◌∙◌, subst}
-use Rattle.pool_rule.specs.declared.word_step.WordStep.{WordStep}
+use Rattle.std.proofs.Common.{sym, ◌∙◌}
 use Rattle.buffer_pool.specs.Pools.{seat_id, sizes_of, view}
 use Rattle.cache_room.specs.TriedLaws.{no_releases}
 use Rattle.cache_room.proofs.Trials.{at_once, made_behind, quiet_full}

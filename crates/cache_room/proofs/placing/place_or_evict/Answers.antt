@@ -1,8 +1,8 @@
 use Rattle.std.proofs.Common.{ℕ, refl, subst}
-use Rattle.buffer_pool.specs.Pools.{seat_id, sizes_of, view}
+use Rattle.buffer_pool.specs.Pools.{sizes_of, view}
 use Rattle.cache_room.specs.declared.wanted.Wanted.{Wanted}
 use Rattle.cache_room.specs.Quiet.{known_later}
-use Rattle.cache_room.specs.Rooms.{MakesRoom, in_free, in_freed, in_none, with_freed}
+use Rattle.cache_room.specs.Rooms.{MakesRoom, in_free, in_freed, in_none}
 use Rattle.cache_room.proofs.placing.place_or_evict.Goals as goal
 
 pub returns-in-Some-clause-room : goal.returns-in-Some-clause-room

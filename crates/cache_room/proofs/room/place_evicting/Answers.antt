@@ -1,7 +1,6 @@
-use Rattle.std.proofs.Common.{◌≡◌, ◌<◌, ℕ, List, Bool, false, length, sym, ap, ◌∙◌, subst}
-use Rattle.std.specs.Prelude.{Some, replicate, slice_index_or}
+use Rattle.std.proofs.Common.{◌≡◌, ℕ, List, Bool, false, length, sym, ap, ◌∙◌, subst}
+use Rattle.std.specs.Prelude.{slice_index_or}
 use Rattle.pool_rule.specs.declared.geometry.Geometry.{Geometry}
-use Rattle.pool_rule.specs.Layout.{headers_of}
 use Rattle.buffer_pool.specs.Pools.{seat_id, sizes_of, view}
 use Rattle.cache_room.specs.Rooms.{HeadersTried, MakesRoom}
 use Rattle.cache_room.proofs.Trials.{asked_all, headers_begin, none_marked}

@@ -1,7 +1,5 @@
-use Rattle.std.proofs.Common.{◌≡◌, ◌+◌, ◌/◌, ℕ, List, true, sym, subst, arith}
+use Rattle.std.proofs.Common.{◌+◌, ◌/◌, ℕ, true, sym, subst}
 use Rattle.std.specs.Prelude.{Option, slice_set}
-use Rattle.pool_rule.specs.declared.word_step.WordStep.{WordStep}
-use Rattle.buffer_pool.specs.Made.{AreMade}
 use Rattle.buffer_pool.specs.Pools.{seat_id, sizes_of, view}
 use Rattle.cache_placement.specs.declared.why.Placed.{Placed}
 use Rattle.cache_placement.specs.Placements.{IsPlacement}

@@ -1,8 +1,7 @@
-use Rattle.std.proofs.Common.{◌≡◌, ◌*◌, ◌<◌, ℕ, true, length, sym, ap, subst, arith}
+use Rattle.std.proofs.Common.{ℕ, true, sym, ap, subst, arith}
 use Rattle.std.specs.Prelude.{Some, slice_set}
 use Rattle.pool_rule.specs.declared.geometry.Geometry.{Geometry}
-use Rattle.pool_rule.specs.Layout.{headers_of}
-use Rattle.buffer_pool.specs.Pools.{seat_id, sizes_of, view}
+use Rattle.buffer_pool.specs.Pools.{sizes_of, view}
 use Rattle.cache_room.specs.Rooms.{HeadersTried, RoomLeft}
 use Rattle.cache_room.proofs.room.place_for_others.Goals as goal
 

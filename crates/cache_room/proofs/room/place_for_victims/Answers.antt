@@ -1,8 +1,6 @@
-use Rattle.std.proofs.Common.{◌≡◌, ◌<◌, ℕ, true, length, sym, ◌∙◌, subst, arith}
+use Rattle.std.proofs.Common.{ℕ, true, sym, subst, arith}
 use Rattle.std.specs.Prelude.{Some, slice_set}
-use Rattle.std.proofs.lemmas.List.{length-set}
-use Rattle.pool_rule.specs.Layout.{headers_of}
-use Rattle.buffer_pool.specs.Pools.{seat_id, sizes_of, view}
+use Rattle.buffer_pool.specs.Pools.{sizes_of, view}
 use Rattle.cache_room.specs.Rooms.{HeadersTried, RoomLeft}
 use Rattle.cache_room.proofs.Trials.{walks_on}
 use Rattle.cache_room.proofs.room.place_for_victims.Goals as goal

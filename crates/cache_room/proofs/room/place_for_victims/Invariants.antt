@@ -1,7 +1,6 @@
 use Rattle.std.proofs.Common.{◌≡◌, length}
 use Rattle.lrfu_policy.specs.Victim.{above_count}
 use Rattle.pool_rule.specs.declared.view.View.{View}
-use Rattle.pool_rule.specs.Layout.{headers_of}
 use Rattle.buffer_pool.specs.Pools.{IsSeatOf, seat_id, sizes_of, view}
 use Rattle.cache_room.specs.Rooms.{HeadersTried}
 use Rattle.cache_room.proofs.room.place_for_victims.Given as goal

@@ -1,9 +1,7 @@
 use Rattle.std.proofs.Common.{ℕ, false, sym, ◌∙◌, subst}
 use Rattle.std.specs.Prelude.{Some, replicate}
-use Rattle.buffer_word.specs.declared.key_word.Key.{Key}
-use Rattle.pool_rule.specs.Layout.{headers_of}
 use Rattle.buffer_pool.specs.Pools.{seat_id, sizes_of, view}
-use Rattle.cache_room.specs.Rooms.{FreesWay, WaysLeft, WaysTried}
+use Rattle.cache_room.specs.Rooms.{FreesWay, WaysTried}
 use Rattle.cache_room.proofs.Trials.{none_marked, ways_begin}
 use Rattle.cache_room.proofs.ways.free_way.Goals as goal
 

@@ -1,8 +1,7 @@
-use Rattle.std.proofs.Common.{◌≡◌, ◌+◌, ◌<◌, true, length, refl, sym, ◌∙◌, arith}
-use Rattle.std.specs.Prelude.{slice_set}
+use Rattle.std.proofs.Common.{◌+◌, true, refl, ◌∙◌, arith}
 use Rattle.std.proofs.lemmas.List.{length-set}
 use Rattle.buffer_pool.specs.Pools.{seat_id, sizes_of, view}
-use Rattle.cache_room.proofs.Trials.{marked_here, marked_more, set_tried, way_gone, way_held}
+use Rattle.cache_room.proofs.Trials.{marked_more, set_tried, way_gone, way_held}
 use Rattle.cache_room.proofs.ways.other_way.Goals as goal
 
 pub returns-in-Ok-clause-frees : goal.returns-in-Ok-clause-frees

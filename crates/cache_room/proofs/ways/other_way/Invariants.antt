@@ -2,7 +2,6 @@ use Rattle.std.proofs.Common.{◌≡◌, ◌<◌, ℕ, true, false, length}
 use Rattle.std.specs.Prelude.{slice_index_or}
 use Rattle.buffer_word.specs.declared.key_word.Key.{Key}
 use Rattle.pool_rule.specs.declared.view.View.{View}
-use Rattle.pool_rule.specs.Layout.{headers_of}
 use Rattle.buffer_pool.specs.Pools.{IsSeatOf, seat_id, sizes_of, view}
 use Rattle.cache_room.specs.Rooms.{WaysTried}
 use Rattle.cache_room.proofs.ways.other_way.Given as goal

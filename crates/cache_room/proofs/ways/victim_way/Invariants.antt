@@ -2,7 +2,6 @@ use Rattle.std.proofs.Common.{◌≡◌, length}
 use Rattle.buffer_word.specs.declared.key_word.Key.{Key}
 use Rattle.lrfu_policy.specs.Victim.{above_count}
 use Rattle.pool_rule.specs.declared.view.View.{View}
-use Rattle.pool_rule.specs.Layout.{headers_of}
 use Rattle.buffer_pool.specs.Pools.{IsSeatOf, seat_id, sizes_of, view}
 use Rattle.cache_room.specs.Rooms.{WaysTried}
 use Rattle.cache_room.proofs.ways.victim_way.Given as goal
