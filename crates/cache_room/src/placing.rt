@@ -65,7 +65,8 @@ fn place_in_free<W: World>(
     ensures entries { length policy.new.entries ≡ length policy.old.entries }
     ensures tried { length tried.new ≡ length tried.old }
     ensures token { HoldsPlaced pool.now seat.new wanted.now.key result.placed }
-    ensures makes { MakesRoom W.files (sizes_of pool.now) (seat_id seat.old) wanted.now (view seat.old) (view seat.new) result.evicted result.placed }
+    ensures makes { MakesRoom W.files (sizes_of pool.now) (seat_id seat.old) wanted.now (view seat.old) (view seat.new)
+        result.evicted result.placed }
 {
     let arenas = pool.geometry().arenas;
     let placed = place(
@@ -115,7 +116,8 @@ pub fn place_or_evict<W: World>(
     ensures entries { length policy.new.entries ≡ length policy.old.entries }
     ensures tried { length tried.new ≡ length tried.old }
     ensures token { HoldsPlaced pool.now seat.new wanted.key result.placed }
-    ensures room { IsRoom W.files (sizes_of pool.now) (seat_id seat.old) wanted (view seat.old) (view seat.new) result.evicted result.placed }
+    ensures room { IsRoom W.files (sizes_of pool.now) (seat_id seat.old) wanted (view seat.old) (view seat.new) result.evicted
+        result.placed }
 {
     match first_free(&wanted.states) {
         Some(_) => return place_in_free(pool, seat, policy, tried, &wanted, bytes),

@@ -60,7 +60,8 @@ fn place_for<W: World>(
     ensures token { MatchOption result (Unit {0}) (HoldsPlaced pool.now seat.new wanted.now.key) }
     ensures left { (start : View) (tried : List Bool) → header < length tried
         → HeadersTried W.files (sizes_of pool.now) (seat_id seat.old) wanted.now.key start tried evicted.old (view seat.old)
-        → RoomLeft W.files (sizes_of pool.now) (seat_id seat.old) wanted.now start (slice_set tried header true) evicted.new (view seat.new) result }
+        → RoomLeft W.files (sizes_of pool.now) (seat_id seat.old) wanted.now start (slice_set tried header true) evicted.new
+        (view seat.new) result }
 {
     match try_header(pool, seat, policy, header) {
         Ok(block) => {
@@ -99,7 +100,8 @@ fn place_for_victims<W: World>(
     ensures seat { IsSameSeat pool.now seat.old seat.new }
     ensures entries { length policy.new.entries ≡ length policy.old.entries }
     ensures token { MatchOption result (Unit {0}) (HoldsPlaced pool.now seat.new wanted.now.key) }
-    ensures left { (start : View) → HeadersTried W.files (sizes_of pool.now) (seat_id seat.old) wanted.now.key start tried.old evicted.old (view seat.old)
+    ensures left { (start : View) → HeadersTried W.files (sizes_of pool.now) (seat_id seat.old) wanted.now.key start tried.old
+        evicted.old (view seat.old)
         → RoomLeft W.files (sizes_of pool.now) (seat_id seat.old) wanted.now start tried.new evicted.new (view seat.new) result }
 {
     lrfu_policy::laws::walk_ends();
@@ -131,7 +133,8 @@ fn place_for_others<W: World>(
     ensures seat { IsSameSeat pool.now seat.old seat.new }
     ensures entries { length policy.new.entries ≡ length policy.old.entries }
     ensures token { MatchOption result (Unit {0}) (HoldsPlaced pool.now seat.new wanted.now.key) }
-    ensures left { (start : View) → HeadersTried W.files (sizes_of pool.now) (seat_id seat.old) wanted.now.key start tried.old evicted.old (view seat.old)
+    ensures left { (start : View) → HeadersTried W.files (sizes_of pool.now) (seat_id seat.old) wanted.now.key start tried.old
+        evicted.old (view seat.old)
         → RoomLeft W.files (sizes_of pool.now) (seat_id seat.old) wanted.now start tried.new evicted.new (view seat.new) result }
     ensures all { MatchOption result (AreMarked (headers_of (sizes_of pool.now)) tried.new) (λ placed. Unit {0}) }
 {
@@ -174,7 +177,8 @@ pub(crate) fn place_evicting<W: World>(
     ensures entries { length policy.new.entries ≡ length policy.old.entries }
     ensures tried { length tried.new ≡ length tried.old }
     ensures token { HoldsPlaced pool.now seat.new wanted.now.key result.placed }
-    ensures makes { MakesRoom W.files (sizes_of pool.now) (seat_id seat.old) wanted.now (view seat.old) (view seat.new) result.evicted result.placed }
+    ensures makes { MakesRoom W.files (sizes_of pool.now) (seat_id seat.old) wanted.now (view seat.old) (view seat.new)
+        result.evicted result.placed }
 {
     consult(pool, seat, policy);
     unmark_all(tried);

@@ -30,7 +30,8 @@ fn victim_way<W: World>(
     requires tried { length tried.old ≡ 8 }
     ensures seat { IsSameSeat pool.now seat.old seat.new }
     ensures entries { length policy.new.entries ≡ length policy.old.entries }
-    ensures left { (key : Key) (start : View) → WaysTried W.files (sizes_of pool.now) (seat_id seat.old) key first start seen.old tried.old (view seat.old)
+    ensures left { (key : Key) (start : View) → WaysTried W.files (sizes_of pool.now) (seat_id seat.old) key first start seen.old
+        tried.old (view seat.old)
         → WaysLeft W.files (sizes_of pool.now) (seat_id seat.old) key first start seen.new tried.new (view seat.new) result }
 {
     lrfu_policy::laws::walk_ends();
@@ -65,7 +66,8 @@ fn other_way<W: World>(
     requires tried { length tried.old ≡ 8 }
     ensures seat { IsSameSeat pool.now seat.old seat.new }
     ensures entries { length policy.new.entries ≡ length policy.old.entries }
-    ensures frees { (key : Key) (start : View) → WaysTried W.files (sizes_of pool.now) (seat_id seat.old) key first start seen.old tried.old (view seat.old)
+    ensures frees { (key : Key) (start : View) → WaysTried W.files (sizes_of pool.now) (seat_id seat.old) key first start seen.old
+        tried.old (view seat.old)
         → FreesWay W.files (sizes_of pool.now) (seat_id seat.old) key first start seen.new (view seat.new) result }
 {
     for way in 0..8 {
@@ -107,7 +109,8 @@ pub fn free_way<W: World>(
     requires seen { length seen.old ≡ 8 }
     ensures seat { IsSameSeat pool.now seat.old seat.new }
     ensures entries { length policy.new.entries ≡ length policy.old.entries }
-    ensures frees { (key : Key) → FreesWay W.files (sizes_of pool.now) (seat_id seat.old) key first (view seat.old) seen.new (view seat.new) result }
+    ensures frees { (key : Key) → FreesWay W.files (sizes_of pool.now) (seat_id seat.old) key first (view seat.old) seen.new
+        (view seat.new) result }
 {
     consult(pool, seat, policy);
     let mut tried = [false; 8];

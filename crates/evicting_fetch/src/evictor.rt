@@ -52,7 +52,8 @@ impl Evictor {
         ensures seat { IsSameSeat pool.now seat.old seat.new }
         ensures evictor { IsEvictorOf pool.now self.new }
         ensures token { HoldsPlaced pool.now seat.new wanted.key result.placed }
-        ensures room { IsRoom W.files (sizes_of pool.now) (seat_id seat.old) wanted (view seat.old) (view seat.new) result.evicted result.placed }
+        ensures room { IsRoom W.files (sizes_of pool.now) (seat_id seat.old) wanted (view seat.old) (view seat.new) result.evicted
+            result.placed }
     {
         place_or_evict(pool, seat, &mut self.policy, &mut self.tried, wanted, bytes)
     }
