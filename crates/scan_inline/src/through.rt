@@ -1,0 +1,83 @@
+//! The scan of a fragment over a file that was found, through the cache.
+ghost use Rattle.std.specs.Prelude.{◌≡◌, ◌<◌, ℕ, List, Some, IsSome, IfOk};
+ghost use Rattle.outside.specs.Cause.{Cause};
+ghost use Rattle.outside.specs.Files.{HasBytes, IsFile};
+ghost use Rattle.pool_rule.specs.declared.view.Hold.TheVariants.{Free};
+ghost use Rattle.pool_rule.specs.Seats.{mark_at};
+ghost use Rattle.buffer_pool.specs.Pools.{IsSeatOf, sizes_of, view};
+ghost use Rattle.range_cache.specs.Caches.{pool_of};
+ghost use Rattle.fragment_plan.specs.declared.fragment.Scan.{Scan};
+ghost use Rattle.fragment_folds.specs.Scans.{scan_at};
+ghost use Rattle.fragment_meaning.specs.ScanOutcome.{IsOutcomeOn};
+ghost use Rattle.fragment_scan.specs.Outcomes.{IsOutcomeFor};
+ghost use Rattle.fragment_scan.specs.Scanned.{IfDecided, IsReadFault};
+ghost use Rattle.io_elevator.specs.Scratch.{IsFreshFor, IsIdle};
+
+use fragment_outcome::Outcome;
+use fragment_plan::Plan;
+use fragment_scan::scan_file;
+use io_elevator::{Elevator, Scratch};
+use ledgers::CacheTotals;
+use outside::{FileRef, NoMemory, Store, World};
+use range_cache::{Cache, PoolSeat};
+use std::alloc::Global;
+
+/// Scans a file by an elevator, whose references stay what they are.
+fn scan_by<W: World, S: Store<W>>(
+    alloc: Global,
+    elevator: &mut Elevator<'_, W, S>,
+    file: FileRef,
+    plan: &Plan,
+    fragment: u32,
+) -> Result<Outcome, NoMemory>
+    requires scan { IsSome (scan_at plan.now fragment) }
+    requires number { file.number < 4096 }
+    requires is_file { IsFile W.files file }
+    ensures cache { elevator.new.cache.now ≡ elevator.old.cache.now }
+    ensures seat_name { elevator.new.seat.ghost_name ≡ elevator.old.seat.ghost_name }
+    ensures store_name { elevator.new.store.ghost_name ≡ elevator.old.store.ghost_name }
+    ensures totals_name { elevator.new.totals.ghost_name ≡ elevator.old.totals.ghost_name }
+    ensures scratch_name { elevator.new.scratch.ghost_name ≡ elevator.old.scratch.ghost_name }
+    ensures means { (scan : Scan) → scan_at plan.now fragment ≡ Some scan → (bytes : List ℕ) → HasBytes W.files file bytes
+        → IfDecided result (IsOutcomeOn scan (Some bytes)) }
+    ensures is_for { (scan : Scan) → scan_at plan.now fragment ≡ Some scan → IfOk result (IsOutcomeFor scan) }
+    ensures cause { Cause (S.fault_count elevator.old.store.now) (S.fault_count elevator.new.store.now) (IsReadFault result) }
+{
+    scan_file(alloc, elevator, file, plan, fragment)
+}
+
+/// Scans a file through a cache, as a fragment of a plan that is a scan asks it.
+///
+/// The seat is one of the cache's and has no pin, before and after; in the scratch nothing is held, before and after. Where the file is told,
+/// the outcome is the scan's on the file's bytes, unless it is `ReadFault`, which comes only where the store's faults rose in this call.
+/// `NoMemory` comes only where memory was refused.
+pub fn scan_through<W: World, S: Store<W>>(
+    alloc: Global,
+    cache: &Cache<W>,
+    seat: &mut PoolSeat<W>,
+    store: &mut S,
+    totals: &mut CacheTotals,
+    scratch: &mut Scratch<W>,
+    file: FileRef,
+    plan: &Plan,
+    fragment: u32,
+) -> Result<Outcome, NoMemory>
+    requires seat { IsSeatOf (pool_of cache.now) seat.old }
+    requires no_pin { (header : ℕ) → (mark_at (view seat.old) header).hold ≡ Free }
+    requires fresh { IsFreshFor (sizes_of (pool_of cache.now)) scratch.old }
+    requires scan { IsSome (scan_at plan.now fragment) }
+    requires number { file.number < 4096 }
+    requires is_file { IsFile W.files file }
+    ensures seat { IsSeatOf (pool_of cache.now) seat.new }
+    ensures no_pin { (header : ℕ) → (mark_at (view seat.new) header).hold ≡ Free }
+    ensures idle { IsIdle scratch.new }
+    ensures means { (scan : Scan) → scan_at plan.now fragment ≡ Some scan → (bytes : List ℕ) → HasBytes W.files file bytes
+        → IfDecided result (IsOutcomeOn scan (Some bytes)) }
+    ensures is_for { (scan : Scan) → scan_at plan.now fragment ≡ Some scan → IfOk result (IsOutcomeFor scan) }
+    ensures cause { Cause (S.fault_count store.old) (S.fault_count store.new) (IsReadFault result) }
+{
+    let mut elevator = Elevator::new(cache, seat, store, totals, scratch);
+    let outcome = scan_by(alloc, &mut elevator, file, plan, fragment);
+    elevator.end();
+    outcome
+}
