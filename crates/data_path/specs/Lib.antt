@@ -1,4 +1,5 @@
 pub mod FaultLine
+pub mod FolderFaults
 pub mod Headline
 pub mod OwnLine
 pub mod PlanBytes

@@ -1,6 +1,9 @@
 //! The files of the current folder that a plan can name.
-ghost use Rattle.std.specs.Prelude.{IfOk};
+ghost use Rattle.std.specs.Prelude.{◌≡◌, IfOk};
+ghost use Rattle.std.specs.IoError.{error_kind};
 ghost use Rattle.outside.specs.Folder.{AreNames};
+ghost use Rattle.data_path.specs.declared.folder.FolderError.TheVariants.{NoMemory as RefusedMemory};
+ghost use Rattle.data_path.specs.FolderFaults.{IsFolderFault};
 
 use crate::names::in_order;
 use outside::{Name, NoMemory};
@@ -23,24 +26,32 @@ pub enum FolderError {
 }
 
 impl From<AllocError> for FolderError {
+    ghost from_gives = { λ _ error. error ≡ RefusedMemory };
+
     fn from(_: AllocError) -> FolderError {
         FolderError::NoMemory
     }
 }
 
 impl From<NoMemory> for FolderError {
+    ghost from_gives = { λ _ error. error ≡ RefusedMemory };
+
     fn from(_: NoMemory) -> FolderError {
         FolderError::NoMemory
     }
 }
 
 impl<T: Drop> From<AllocFailed<T>> for FolderError {
+    ghost from_gives = { λ _ error. error ≡ RefusedMemory };
+
     fn from(_: AllocFailed<T>) -> FolderError {
         FolderError::NoMemory
     }
 }
 
 impl From<io::Error> for FolderError {
+    ghost from_gives = { λ error folder. IsFolderFault (error_kind error) folder };
+
     fn from(error: io::Error) -> FolderError {
         if error.kind() == io::ErrorKind::OutOfMemory {
             FolderError::NoMemory

@@ -56,19 +56,25 @@ const READS: [(&str, &str, &[(u64, usize)]); 5] = [
     ),
 ];
 
-/// Whether the first so many of these reads are those of a scan of which no more succeed, and that ends by a read fault if there are more.
+/// Whether the first so many of these reads, or all, are those of a scan of which no more succeed, and that ends by a read fault if there
+/// are more.
 fn reads_up_to(alloc: Global, case: &(&str, &str, &[(u64, usize)]), most: usize) -> Option<bool> {
     let (sink, made) = scanned(alloc, case.0, case.1, most)?;
     let failed = sink.written()?.ends_with(b" failed read fault\n");
-    Some(Some(made.as_slice()) == case.2.get(..most) && failed == (most < case.2.len()))
+    let wanted = case.2.get(..most.min(case.2.len()));
+    Some(Some(made.as_slice()) == wanted && failed == (most < case.2.len()))
 }
 
 fn all_read(alloc: Global) -> bool {
     for case in &READS {
-        for most in 0..=case.2.len() {
+        for most in 0..case.2.len() {
             if reads_up_to(alloc, case, most) != Some(true) {
                 return false;
             }
+        }
+        // All of them succeed, and one more would be seen.
+        if reads_up_to(alloc, case, usize::MAX) != Some(true) {
+            return false;
         }
     }
     true
