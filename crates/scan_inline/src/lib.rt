@@ -1,6 +1,8 @@
 //! Scans of fragments through the shared cache.
 #![tactic(auto)]
 
+mod inline;
 mod through;
 
+pub use inline::scan_inline;
 pub use through::scan_through;

@@ -1,0 +1,112 @@
+//! The scan of a fragment over the files of a store, through the cache.
+ghost use Rattle.std.specs.Prelude.{◌≡◌, ◌≢◌, ◌<◌, ℕ, List, Some, Ok, IsSome, IfOk};
+ghost use Rattle.outside.specs.Cause.{Cause};
+ghost use Rattle.outside.specs.Files.{Files, HasBytes, IsFile};
+ghost use Rattle.pool_rule.specs.declared.view.Hold.TheVariants.{Free};
+ghost use Rattle.pool_rule.specs.Seats.{mark_at};
+ghost use Rattle.buffer_pool.specs.Pools.{IsSeatOf, view};
+ghost use Rattle.range_cache.specs.Caches.{pool_of};
+ghost use Rattle.fragment_plan.specs.declared.fragment.Scan.{Scan};
+ghost use Rattle.fragment_outcome.specs.declared.failure.Failure.TheVariants as failure;
+ghost use Rattle.fragment_folds.specs.Scans.{scan_at};
+ghost use Rattle.fragment_meaning.specs.ScanOutcome.{failed, IsOutcomeOn, ScanMeans};
+ghost use Rattle.fragment_scan.specs.Outcomes.{IsOutcomeFor};
+ghost use Rattle.fragment_scan.specs.Scanned.{IfDecided, IsReadFault};
+
+use crate::through::scan_through;
+use fragment_outcome::{Failure, Outcome};
+use fragment_plan::{Plan, Scan, Work};
+use io_elevator::Scratch;
+use ledgers::CacheTotals;
+use outside::{FileRef, NoMemory, Store, World};
+use range_cache::{Cache, PoolSeat};
+use std::alloc::Global;
+
+/// The scan that a fragment is.
+fn scan_of(plan: &Plan, fragment: u32) -> &Scan
+    requires { IsSome (scan_at plan.now fragment) }
+    ensures { scan_at plan.now fragment ≡ Some result.now }
+{
+    match &plan.fragments()[fragment as usize].work {
+        Work::Scan(scan) => scan,
+        Work::Merge(_) => unreachable!(),
+    }
+}
+
+/// Scans a file that was found in a store, in scratch that it makes and frees.
+fn scan_found<W: World, S: Store<W>>(
+    alloc: Global,
+    cache: &Cache<W>,
+    seat: &mut PoolSeat<W>,
+    store: &mut S,
+    totals: &mut CacheTotals,
+    file: FileRef,
+    plan: &Plan,
+    fragment: u32,
+) -> Result<Outcome, NoMemory>
+    requires seat { IsSeatOf (pool_of cache.now) seat.old }
+    requires no_pin { (header : ℕ) → (mark_at (view seat.old) header).hold ≡ Free }
+    requires scan { IsSome (scan_at plan.now fragment) }
+    requires number { file.number < 4096 }
+    requires is_file { IsFile W.files file }
+    ensures seat { IsSeatOf (pool_of cache.now) seat.new }
+    ensures no_pin { (header : ℕ) → (mark_at (view seat.new) header).hold ≡ Free }
+    ensures means { (scan : Scan) → scan_at plan.now fragment ≡ Some scan → (bytes : List ℕ) → HasBytes W.files file bytes
+        → IfDecided result (IsOutcomeOn scan (Some bytes)) }
+    ensures is_for { (scan : Scan) → scan_at plan.now fragment ≡ Some scan → IfOk result (IsOutcomeFor scan) }
+    ensures cause { Cause (S.fault_count store.old) (S.fault_count store.new) (IsReadFault result) }
+{
+    let mut scratch = match Scratch::new(alloc, cache, seat) {
+        Ok(scratch) => scratch,
+        Err(NoMemory) => return Err(NoMemory),
+    };
+    let outcome = scan_through(
+        alloc,
+        cache,
+        seat,
+        store,
+        totals,
+        &mut scratch,
+        file,
+        plan,
+        fragment,
+    );
+    scratch.free(cache, seat);
+    outcome
+}
+
+/// Scans a file of a store, as a fragment of a plan that is a scan asks it: it finds the file by its name, and reads it through a cache,
+/// in scratch memory that it makes and frees.
+///
+/// The seat is one of the cache's and has no pin, before and after, whatever is answered. The outcome is `NoFile` where no file has the
+/// name. Where the store's files are told, the outcome is what the scan means, unless it is `ReadFault`, which comes only where the
+/// store's faults rose in this call. An answer is of the form of the scan's fold, and a failure is none of a merge. `NoMemory` comes
+/// only where memory was refused.
+///
+/// Source: Apache ORC specification v1 for what a file has; the outcomes and their order are this project's own.
+pub fn scan_inline<W: World, S: Store<W>>(
+    alloc: Global,
+    cache: &Cache<W>,
+    seat: &mut PoolSeat<W>,
+    store: &mut S,
+    plan: &Plan,
+    fragment: u32,
+    totals: &mut CacheTotals,
+) -> Result<Outcome, NoMemory>
+    requires seat { IsSeatOf (pool_of cache.now) seat.old }
+    requires no_pin { (header : ℕ) → (mark_at (view seat.old) header).hold ≡ Free }
+    requires scan { IsSome (scan_at plan.now fragment) }
+    ensures seat { IsSeatOf (pool_of cache.now) seat.new }
+    ensures no_pin { (header : ℕ) → (mark_at (view seat.new) header).hold ≡ Free }
+    ensures means { IfOk result (λ o. (files : Files) (scan : Scan) → W.files ≡ Some files → scan_at plan.now fragment ≡ Some scan
+        → o ≢ failed failure.ReadFault → ScanMeans files scan o) }
+    ensures is_for { IfOk result (λ o. (scan : Scan) → scan_at plan.now fragment ≡ Some scan → IsOutcomeFor scan o) }
+    ensures cause { Cause (S.fault_count store.old) (S.fault_count store.new) (result ≡ Ok (failed failure.ReadFault)) }
+{
+    let found = match store.find(scan_of(plan, fragment).file.as_str()) {
+        Ok(Some(found)) => found,
+        Ok(None) => return Ok(Outcome::Failure(Failure::NoFile)),
+        Err(_) => return Ok(Outcome::Failure(Failure::ReadFault)),
+    };
+    scan_found(alloc, cache, seat, store, totals, found, plan, fragment)
+}
