@@ -1,2 +1,3 @@
 mod Scans
 mod Finding
+mod Growth

@@ -12,6 +12,7 @@ ghost use Rattle.fragment_folds.specs.Scans.{scan_at};
 ghost use Rattle.fragment_meaning.specs.ScanOutcome.{failed, IsOutcomeOn, ScanMeans};
 ghost use Rattle.fragment_scan.specs.Outcomes.{IsOutcomeFor};
 ghost use Rattle.fragment_scan.specs.Scanned.{IfDecided, IsReadFault};
+ghost use Rattle.scan_inline.specs.Counts.{AreCounted};
 
 use crate::through::scan_through;
 use fragment_outcome::{Failure, Outcome};
@@ -34,6 +35,7 @@ fn scan_of(plan: &Plan, fragment: u32) -> &Scan
 }
 
 /// Scans a file that was found in a store, in scratch that it makes and frees.
+#[tactic(auto, using(crate::proofs::Growth::none_counted))]
 fn scan_found<W: World, S: Store<W>>(
     alloc: Global,
     cache: &Cache<W>,
@@ -55,6 +57,7 @@ fn scan_found<W: World, S: Store<W>>(
         → IfDecided result (IsOutcomeOn scan (Some bytes)) }
     ensures is_for { (scan : Scan) → scan_at plan.now fragment ≡ Some scan → IfOk result (IsOutcomeFor scan) }
     ensures cause { Cause (S.fault_count store.old) (S.fault_count store.new) (IsReadFault result) }
+    ensures counted { AreCounted (S.reads store.old) (S.reads store.new) totals.old totals.new }
 {
     let mut scratch = match Scratch::new(alloc, cache, seat) {
         Ok(scratch) => scratch,
@@ -83,7 +86,11 @@ fn scan_found<W: World, S: Store<W>>(
 /// store's faults rose in this call. An answer is of the form of the scan's fold, and a failure is none of a merge. `NoMemory` comes
 /// only where memory was refused.
 ///
+/// Hits, fills and bypasses don't fall; and where the store tells its reads, fills and bypasses grow by as many as there are more, unless
+/// one of the two stands at its last value.
+///
 /// Source: Apache ORC specification v1 for what a file has; the outcomes and their order are this project's own.
+#[tactic(auto, using(crate::proofs::Growth::none_counted))]
 pub fn scan_inline<W: World, S: Store<W>>(
     alloc: Global,
     cache: &Cache<W>,
@@ -102,6 +109,7 @@ pub fn scan_inline<W: World, S: Store<W>>(
         → o ≢ failed failure.ReadFault → ScanMeans files scan o) }
     ensures is_for { IfOk result (λ o. (scan : Scan) → scan_at plan.now fragment ≡ Some scan → IsOutcomeFor scan o) }
     ensures cause { Cause (S.fault_count store.old) (S.fault_count store.new) (result ≡ Ok (failed failure.ReadFault)) }
+    ensures counted { AreCounted (S.reads store.old) (S.reads store.new) totals.old totals.new }
 {
     let found = match store.find(scan_of(plan, fragment).file.as_str()) {
         Ok(Some(found)) => found,

@@ -1,5 +1,5 @@
 //! The scan of a fragment over a file that was found, through the cache.
-ghost use Rattle.std.specs.Prelude.{◌≡◌, ◌<◌, ℕ, List, Some, IsSome, IfOk};
+ghost use Rattle.std.specs.Prelude.{◌≡◌, ◌<◌, ◌≤◌, ℕ, List, Some, IsSome, IfOk};
 ghost use Rattle.outside.specs.Cause.{Cause};
 ghost use Rattle.outside.specs.Files.{HasBytes, IsFile};
 ghost use Rattle.pool_rule.specs.declared.view.Hold.TheVariants.{Free};
@@ -11,11 +11,16 @@ ghost use Rattle.fragment_folds.specs.Scans.{scan_at};
 ghost use Rattle.fragment_meaning.specs.ScanOutcome.{IsOutcomeOn};
 ghost use Rattle.fragment_scan.specs.Outcomes.{IsOutcomeFor};
 ghost use Rattle.fragment_scan.specs.Scanned.{IfDecided, IsReadFault};
+ghost use Rattle.held_ranges.specs.Counts.{last};
+ghost use Rattle.orc_streams.specs.Acts.{Act};
+ghost use Rattle.io_elevator.specs.Elevator.{Did};
 ghost use Rattle.io_elevator.specs.Scratch.{IsFreshFor, IsIdle};
+ghost use Rattle.scan_inline.specs.Counts.{AreCounted, HaveFit};
 
 use fragment_outcome::Outcome;
 use fragment_plan::Plan;
 use fragment_scan::scan_file;
+use held_ranges::laws::reads_are_counted;
 use io_elevator::{Elevator, Scratch};
 use ledgers::CacheTotals;
 use outside::{FileRef, NoMemory, Store, World};
@@ -38,6 +43,7 @@ fn scan_by<W: World, S: Store<W>>(
     ensures store_name { elevator.new.store.ghost_name ≡ elevator.old.store.ghost_name }
     ensures totals_name { elevator.new.totals.ghost_name ≡ elevator.old.totals.ghost_name }
     ensures scratch_name { elevator.new.scratch.ghost_name ≡ elevator.old.scratch.ghost_name }
+    ensures acts { (acts : List Act) × Did W.files S.reads elevator.old acts elevator.new }
     ensures means { (scan : Scan) → scan_at plan.now fragment ≡ Some scan → (bytes : List ℕ) → HasBytes W.files file bytes
         → IfDecided result (IsOutcomeOn scan (Some bytes)) }
     ensures is_for { (scan : Scan) → scan_at plan.now fragment ≡ Some scan → IfOk result (IsOutcomeFor scan) }
@@ -46,11 +52,61 @@ fn scan_by<W: World, S: Store<W>>(
     scan_file(alloc, elevator, file, plan, fragment)
 }
 
+/// Scans a file by an elevator, and ends the elevator.
+fn scan_and_end<W: World, S: Store<W>>(
+    alloc: Global,
+    elevator: &mut Elevator<'_, W, S>,
+    file: FileRef,
+    plan: &Plan,
+    fragment: u32,
+) -> Result<Outcome, NoMemory>
+    requires scan { IsSome (scan_at plan.now fragment) }
+    requires number { file.number < 4096 }
+    requires is_file { IsFile W.files file }
+    requires fit { HaveFit elevator.old.totals.now }
+    ensures cache { elevator.new.cache.now ≡ elevator.old.cache.now }
+    ensures seat_name { elevator.new.seat.ghost_name ≡ elevator.old.seat.ghost_name }
+    ensures store_name { elevator.new.store.ghost_name ≡ elevator.old.store.ghost_name }
+    ensures totals_name { elevator.new.totals.ghost_name ≡ elevator.old.totals.ghost_name }
+    ensures scratch_name { elevator.new.scratch.ghost_name ≡ elevator.old.scratch.ghost_name }
+    ensures seat { IsSeatOf (pool_of elevator.new.cache.now) elevator.new.seat.now }
+    ensures no_pin { (header : ℕ) → (mark_at (view elevator.new.seat.now) header).hold ≡ Free }
+    ensures idle { IsIdle elevator.new.scratch.now }
+    ensures means { (scan : Scan) → scan_at plan.now fragment ≡ Some scan → (bytes : List ℕ) → HasBytes W.files file bytes
+        → IfDecided result (IsOutcomeOn scan (Some bytes)) }
+    ensures is_for { (scan : Scan) → scan_at plan.now fragment ≡ Some scan → IfOk result (IsOutcomeFor scan) }
+    ensures cause { Cause (S.fault_count elevator.old.store.now) (S.fault_count elevator.new.store.now) (IsReadFault result) }
+    ensures counted { AreCounted (S.reads elevator.old.store.now) (S.reads elevator.new.store.now)
+        elevator.old.totals.now elevator.new.totals.now }
+{
+    reads_are_counted::<W, S>();
+    let outcome = scan_by(alloc, elevator, file, plan, fragment);
+    elevator.end();
+    outcome
+}
+
+/// A count is a number of 64 bits.
+fn count_fits(count: u64)
+    ensures { count ≤ last }
+{}
+
+/// So are these.
+fn counts_fit(totals: &CacheTotals)
+    ensures { HaveFit totals.now }
+{
+    count_fits(totals.hit);
+    count_fits(totals.filled);
+    count_fits(totals.bypass);
+}
+
 /// Scans a file through a cache, as a fragment of a plan that is a scan asks it.
 ///
-/// The seat is one of the cache's and has no pin, before and after; in the scratch nothing is held, before and after. Where the file is told,
-/// the outcome is the scan's on the file's bytes, unless it is `ReadFault`, which comes only where the store's faults rose in this call.
-/// `NoMemory` comes only where memory was refused.
+/// The seat is one of the cache's and has no pin, before and after; in the scratch nothing is held, before and after. Where the file is
+/// told, the outcome is the scan's on the file's bytes, unless it is `ReadFault`, which comes only where the store's faults rose in this
+/// call.
+///
+/// Hits, fills and bypasses don't fall; and where the store tells its reads, fills and bypasses grow by as many as there are more, unless
+/// one of the two stands at its last value. `NoMemory` comes only where memory was refused.
 pub fn scan_through<W: World, S: Store<W>>(
     alloc: Global,
     cache: &Cache<W>,
@@ -75,9 +131,9 @@ pub fn scan_through<W: World, S: Store<W>>(
         → IfDecided result (IsOutcomeOn scan (Some bytes)) }
     ensures is_for { (scan : Scan) → scan_at plan.now fragment ≡ Some scan → IfOk result (IsOutcomeFor scan) }
     ensures cause { Cause (S.fault_count store.old) (S.fault_count store.new) (IsReadFault result) }
+    ensures counted { AreCounted (S.reads store.old) (S.reads store.new) totals.old totals.new }
 {
+    counts_fit(totals);
     let mut elevator = Elevator::new(cache, seat, store, totals, scratch);
-    let outcome = scan_by(alloc, &mut elevator, file, plan, fragment);
-    elevator.end();
-    outcome
+    scan_and_end(alloc, &mut elevator, file, plan, fragment)
 }

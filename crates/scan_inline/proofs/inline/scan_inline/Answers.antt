@@ -2,6 +2,7 @@ use Rattle.std.proofs.Common.{List, ℕ, sym, ap, ◌∙◌}
 use Rattle.outside.specs.Files.{file_named}
 use Rattle.fragment_folds.specs.Scans.{scan_at}
 use Rattle.scan_inline.proofs.Finding.{found_is_file, scanned_means}
+use Rattle.scan_inline.proofs.Growth.{counted_since}
 use Rattle.scan_inline.proofs.inline.scan_inline.Goals as goal
 
 pub scan_found-requires-clause-is_file : goal.scan_found-requires-clause-is_file
@@ -13,3 +14,8 @@ returns-clause-means g c =
     scanned_means g.W.World.files (scan_at c.args.plan.now c.args.fragment) c.scan_of.result.now c.in-Ok-Some.found c.scan_found.result c.scan_of.ensures
     (λ files told. sym c.in-Ok-Some.field-0-is ∙ c.in-Ok-Some.ensures.found files told ∙ ap (λ (n : List ℕ). file_named n files) c.as_str.ensures)
     c.scan_found.ensures.means
+
+pub returns-clause-counted : goal.returns-clause-counted
+returns-clause-counted g c =
+    counted_since (g.S.Store.reads c.args.store.now) (g.S.Store.reads c.find.new.self) (g.S.Store.reads c.scan_found.new.store) c.args.totals.now c.scan_found.new.totals
+    c.find.ensures.reads c.scan_found.ensures.counted

@@ -37,3 +37,9 @@ pub returns-clause-scratch_name : goal.returns-clause-scratch_name
 returns-clause-scratch_name g c =
     let s = the_scan (scan_at c.args.plan.now c.args.fragment) c.requires.scan in
     (c.scan_file.ensures.scans s.0 s.1).by.scratch
+
+pub returns-clause-acts : goal.returns-clause-acts
+returns-clause-acts g c =
+    let s = the_scan (scan_at c.args.plan.now c.args.fragment) c.requires.scan in
+    let scans = c.scan_file.ensures.scans s.0 s.1 in
+    (scans.acts, scans.by)

@@ -1,0 +1,15 @@
+use Rattle.std.proofs.Common.{[], ◌∷◌}
+use Rattle.orc_streams.specs.Acts.{closes}
+use Rattle.io_elevator.specs.Laws.{did_joined}
+use Rattle.io_elevator.specs.Elevator.{as_named, desk_of, moment_of}
+use Rattle.scan_inline.proofs.Growth.{ran_counted}
+use Rattle.scan_inline.proofs.through.scan_and_end.Goals as goal
+
+pub returns-clause-counted : goal.returns-clause-counted
+returns-clause-counted g c =
+    let first = c.args.elevator.now in
+    let between = c.scan_by-outcome.new.elevator in
+    let last = c.end.new.self in
+    let scanned = c.scan_by-outcome.ensures.acts in
+    let did = did_joined g.W.World.files g.S.Store.reads first between last scanned.0 (closes ∷ []) scanned.1 c.end.ensures.acts in
+    ran_counted g.W.World.files g.S.Store.reads (moment_of first) (as_named (desk_of first) (moment_of last)) did.deeds c.reads_are_counted.ensures c.requires.fit did.ran
