@@ -1,11 +1,12 @@
 -- Stripe by stripe.
-use Rattle.std.proofs.Common.{◌≡◌, ℕ, ◌+◌, ◌<◌, List, [], ◌∷◌, ◌++◌, length, take, get_or, refl, sym, ap, ◌∙◌, append_assoc, append-nil}
-use Rattle.std.proofs.lemmas.List.{take_more}
+use Rattle.std.proofs.Common.{◌≡◌, ℕ, ◌+◌, ◌<◌, ◌≤◌, List, [], ◌∷◌, ◌++◌, length, take, get_or, refl, sym, ap, subst, ◌∙◌, append_assoc, append-nil}
+use Rattle.std.proofs.lemmas.List.{take_more, take_all}
 use Rattle.orc_tail.specs.declared.stripe.Stripe.{Stripe}
+use Rattle.tail_writer.specs.declared.file_column.FileColumn.{FileColumn}
 use Rattle.table_writer.specs.Table.{HasTable}
-use Rattle.table_files.specs.Files.{WrittenStripe, stripes_in, StripeIsNext}
+use Rattle.table_files.specs.Files.{WrittenStripe, stripes_in, StripeIsNext, IsEnded}
 use Rattle.whole_tables.specs.declared.table_stripe.TableStripe.{TableStripe}
-use Rattle.whole_tables.specs.Tables.{AreFrom, AddsStripe, Stand}
+use Rattle.whole_tables.specs.Tables.{AreFrom, AddsStripe, Stand, IsTable}
 
 stripes_more : (written : List WrittenStripe) (w : WrittenStripe) → stripes_in (written ++ w ∷ []) ≡ stripes_in written ++ w.stripe ∷ []
 stripes_more [] w = refl
@@ -39,3 +40,15 @@ stand_more front before after stripes_before stripes_after given i g next within
 
 pub none_stand : (front : List ℕ) (stripes : List Stripe) (given : List TableStripe) → stripes ≡ [] → Stand front front stripes (take 0 given)
 none_stand front stripes given is = rw is (record { written = []; are = refl; from = tt; there = tt; added = []; joined = sym (append-nil front) })
+
+pub is_table : (front before after : List ℕ) (stripes lent : List Stripe) (given : List TableStripe) (i : ℕ) (columns : List FileColumn) (rows : ℕ) → length given ≤ i → Stand front before stripes (take i given) → lent ≡ stripes
+    → IsEnded before after lent columns rows → IsTable front after given columns rows
+is_table front before after stripes lent given i columns rows all stand same ended = record {
+  written = stand.written;
+  from = subst (λ (l : List TableStripe). AreFrom l stand.written) (take_all i given all) stand.from;
+  whole = ended.whole stand.written (stand.are ∙ sym same) stand.there;
+  added = stand.added;
+  end = ended.end;
+  joined = ended.joined ∙ ap (λ (l : List ℕ). l ++ ended.end) stand.joined ∙ append_assoc front stand.added ended.end;
+  told = ended.told;
+}
