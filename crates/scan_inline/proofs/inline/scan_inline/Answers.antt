@@ -1,4 +1,4 @@
-use Rattle.std.proofs.Common.{List, ℕ, sym, ap, ◌∙◌}
+use Rattle.std.proofs.Common.{List, ℕ, refl, sym, ap, ◌∙◌}
 use Rattle.outside.specs.Files.{file_named}
 use Rattle.fragment_folds.specs.Scans.{scan_at}
 use Rattle.scan_inline.proofs.Finding.{found_is_file, scanned_means}
@@ -19,3 +19,9 @@ pub returns-clause-counted : goal.returns-clause-counted
 returns-clause-counted g c =
     counted_since (g.S.Store.reads c.args.store.now) (g.S.Store.reads c.find.new.self) (g.S.Store.reads c.scan_found.new.store) c.args.totals.now c.scan_found.new.totals
     c.find.ensures.reads c.scan_found.ensures.counted
+
+pub returns-in-Ok-None-clause-cause : goal.returns-in-Ok-None-clause-cause
+returns-in-Ok-None-clause-cause g c = record { later = c.find.ensures.cause.later; failed = λ e. absurd cc }
+
+pub returns-in-Err-clause-means : goal.returns-in-Err-clause-means
+returns-in-Err-clause-means g c = λ files scan told is no_fault. absurd (no_fault refl)
