@@ -1,37 +1,73 @@
 //! The run of a plan's bytes, by the caller alone.
-ghost use Rattle.std.specs.Prelude.{◌≡◌, IfOk};
+ghost use Rattle.std.specs.Prelude.{◌≡◌, ℕ, IfOk};
 ghost use Rattle.outside.specs.Cause.{Rose};
+ghost use Rattle.pool_rule.specs.declared.view.Hold.TheVariants.{Free};
+ghost use Rattle.pool_rule.specs.Seats.{mark_at};
+ghost use Rattle.buffer_pool.specs.Pools.{IsSeatOf, view};
+ghost use Rattle.range_cache.specs.Caches.{pool_of};
 ghost use Rattle.fragment_plan.specs.Plan.{plan_of};
 ghost use Rattle.command_line.specs.Options.{AreInRange};
 ghost use Rattle.plan_run.specs.Run.{HasRun};
 ghost use Rattle.data_path.specs.Headline.{Answers, CompletesAlone, Prints};
 
+use crate::cache_scanner::CacheScanner;
 use crate::faulty_plan::fault_line;
 use crate::status::Status;
-use crate::store_scanner::StoreScanner;
 use crate::writing::{results_written, written};
 use command_line::Options;
 use fragment_plan::{Plan, PlanError, read_plan};
+use ledgers::CacheTotals;
 use outside::{NoMemory, Sink, Store, World};
 use plan_run::laws::{plans_are_short, quiet_runs_mean_the_plan};
 use plan_run::{Outcomes, run_plan};
+use range_cache::{Cache, Geometry, OpenFault, PoolSeat};
 use std::alloc::Global;
 
-/// Runs a plan over a store that is read directly.
+/// A cache of the options' geometry and half-life, with its one seat, which has no pin. All memory of the cache is taken here, and it
+/// refuses only for want of it.
+fn cache_for<W: World>(
+    alloc: Global,
+    options: &Options,
+) -> Result<(Cache<W>, PoolSeat<W>), NoMemory>
+    requires in_range { AreInRange options.now }
+    ensures seat { IfOk result (λ r. IsSeatOf (pool_of r.0) r.1) }
+    ensures no_pin { IfOk result (λ r. (header : ℕ) → (mark_at (view r.1) header).hold ≡ Free) }
+{
+    let geometry = Geometry {
+        min_block: options.min_block,
+        arenas: options.arenas,
+        sets: options.sets,
+    };
+    match Cache::create(alloc, geometry, options.half_life, 1) {
+        Ok(made) => Ok(made),
+        Err(OpenFault::BadGeometry) => unreachable!(),
+        Err(OpenFault::NoMemory) => Err(NoMemory),
+    }
+}
+
+/// Runs a plan over a store that is read through a cache, which it makes before the plan runs and lets go.
 fn run_over<W: World, S: Store<W>>(
     alloc: Global,
+    options: &Options,
     plan: &Plan,
     last: &mut S,
 ) -> Result<Outcomes, NoMemory>
+    requires in_range { AreInRange options.now }
     ensures { IfOk result (HasRun W.files (S.fault_count last.old) (S.fault_count last.new) plan.now) }
 {
-    let mut scanner = StoreScanner::new(last);
+    let (cache, mut seat) = match cache_for(alloc, options) {
+        Ok(made) => made,
+        Err(NoMemory) => return Err(NoMemory),
+    };
+    let mut totals = CacheTotals::ZERO;
+    let mut scanner = CacheScanner::new(&cache, &mut seat, last, &mut totals);
     run_plan(alloc, plan, &mut scanner)
 }
 
-/// Runs a plan's bytes over the files of a world, and writes each fragment's result, by the caller alone and without a cache.
+/// Runs a plan's bytes over the files of a world, and writes each fragment's result, by the caller alone.
 ///
-/// `options` are some that a command line can give; those of cache and threads aren't used yet.
+/// `options` are some that a command line can give. Each scan goes through a cache of their geometry and half-life, which the call makes
+/// before the plan runs, and lets go; those of threads aren't used yet.
 ///
 /// Bytes that are no plan write the line of their first fault: `BadPlan`, and the store is as it was. Else the results of all
 /// fragments are written, in plan order. Where the world tells its files, what is written is what the fragments mean, but for
@@ -40,12 +76,12 @@ fn run_over<W: World, S: Store<W>>(
 /// It never answers `Usage` or `PlanFault`.
 pub fn alone<W: World, S: Store<W>, K: Sink>(
     alloc: Global,
-    _options: &Options,
+    options: &Options,
     plan: &[u8],
     last: &mut S,
     out: &mut K,
 ) -> Status
-    requires in_range { AreInRange _options.now }
+    requires in_range { AreInRange options.now }
     ensures answers { Answers
         (Prints W.files (S.fault_count last.old) (S.fault_count last.new) (last.new ≡ last.old) plan.now)
         (Rose (K.fault_count out.old) (K.fault_count out.new)) ⊥ (K.content out.old) (K.content out.new) result }
@@ -64,7 +100,7 @@ pub fn alone<W: World, S: Store<W>, K: Sink>(
         }
         Err(PlanError::NoMemory) => return Status::NoMemory,
     };
-    match run_over(alloc, &plan, last) {
+    match run_over(alloc, options, &plan, last) {
         Ok(outcomes) => results_written(&plan, outcomes.as_slice(), out),
         Err(_) => Status::NoMemory,
     }

@@ -3,6 +3,7 @@
 //! `llapd` is the top call. The program of that name makes the real objects and calls it.
 #![tactic(auto)]
 
+mod cache_scanner;
 mod faulty_plan;
 mod folder;
 mod inline;
@@ -11,9 +12,9 @@ mod own_lines;
 mod plan_bytes;
 mod run;
 mod status;
-mod store_scanner;
 mod writing;
 
+pub use cache_scanner::CacheScanner;
 pub use faulty_plan::fault_line;
 pub use folder::{FolderError, file_names};
 pub use inline::alone;
@@ -22,5 +23,4 @@ pub use own_lines::own_line;
 pub use plan_bytes::{PlanError, read_all};
 pub use run::llapd;
 pub use status::Status;
-pub use store_scanner::StoreScanner;
 pub use writing::written;

@@ -5,10 +5,10 @@ use Rattle.fragment_folds.specs.Scans.{scan_at}
 use Rattle.fragment_scan.specs.Outcomes.{IsOutcomeFor}
 use Rattle.plan_run.specs.Words.{ScanHasWords}
 use Rattle.data_path.proofs.ScanWords.{scan_words}
-use Rattle.data_path.proofs.store_scanner.StoreScannerScanner.scan.Goals as goal
+use Rattle.data_path.proofs.cache_scanner.CacheScannerScanner.scan.Goals as goal
 
 pub returns-clause-worded : goal.returns-clause-worded
 returns-clause-worded g c =
     let found = scan_at c.args.plan.now c.args.fragment in
-    IfOk-weaker c.scan.result (λ o. (scan : Scan) → found ≡ Some scan → IsOutcomeFor scan o) ScanHasWords
-    (λ o is. scan_words found o c.requires.is_scan is) c.scan.ensures.is_for
+    IfOk-weaker c.scan_inline.result (λ o. (scan : Scan) → found ≡ Some scan → IsOutcomeFor scan o) ScanHasWords
+    (λ o is. scan_words found o c.requires.is_scan is) c.scan_inline.ensures.is_for
