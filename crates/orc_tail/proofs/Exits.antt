@@ -7,7 +7,7 @@ use Rattle.outside.specs.Cause.{Rose}
 use Rattle.outside.specs.Files.{Files, HasBytes, range_of}
 use Rattle.outside.specs.Reads.{ReadEntry}
 use Rattle.outside.specs.Followed.{decided, read_failed, refused, failed_read, Followed, known}
-use Rattle.outside.proofs.Following.{Followed-known, Followed-refused, Followed-same, Followed-read, Followed-read_failed}
+use Rattle.outside.specs.FollowedLaws.{Followed-known, Followed-refused, Followed-same, Followed-read, Followed-read_failed}
 use Rattle.orc_tail.specs.declared.fault.TailFault.{TailFault}
 use Rattle.orc_tail.specs.declared.fault.TailFault.TheVariants as fault
 use Rattle.orc_tail.specs.Reading.{Gives, Fails}

@@ -4,7 +4,7 @@ use Rattle.outside.specs.declared.file_ref.FileRef.{FileRef}
 use Rattle.outside.specs.Files.{Files, AreFiles}
 use Rattle.outside.specs.Reads.{ReadEntry}
 use Rattle.outside.specs.Followed.{Followed, known, and_then}
-use Rattle.outside.proofs.Following.{Followed-stopped, Followed-then, Followed-same}
+use Rattle.outside.specs.FollowedLaws.{Followed-stopped, Followed-then, Followed-same}
 use Rattle.orc_tail.specs.declared.fault.TailFault.{TailFault}
 use Rattle.orc_tail.specs.declared.fault.TailFault.TheVariants.{TooLarge, TooShort}
 use Rattle.orc_tail.specs.declared.postscript.Span.{Span}

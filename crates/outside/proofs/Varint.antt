@@ -1,27 +1,15 @@
 -- Varints byte by byte, and in pieces.
-use Rattle.std.proofs.Common.{◌≡◌, ℕ, zero, suc, ◌+◌, ◌-◌, ◌*◌, ◌%◌, ◌^◌, ◌<◌, ◌≤◌, true, false, ltb, List, [], ◌∷◌, ◌++◌, length, get_or, Result, Ok, Err, refl, sym, ap, ◌∙◌, arith, append_assoc, length-append, Some, None}
+use Rattle.std.proofs.Common.{◌≡◌, ℕ, zero, suc, ◌+◌, ◌-◌, ◌*◌, ◌%◌, ◌^◌, ◌<◌, ◌≤◌, List, [], ◌∷◌, ◌++◌, length, get_or, Result, Ok, Err, refl, sym, ap, ◌∙◌, arith, append_assoc, length-append, Some, None}
 use Rattle.std.proofs.Math.Nat.{add-mod-mod, mod-add-mod, mul_comm}
 use Rattle.std.proofs.lemmas.Nat.{pow-add}
-use Rattle.std.proofs.lemmas.Bool.{le-ltb, lt-ltb}
 use Rattle.outside.specs.declared.run_fault.RunFault.{RunFault}
 use Rattle.outside.specs.declared.run_fault.RunFault.TheVariants.{StreamEnds, LongVarint}
 use Rattle.outside.specs.Reading.{go_on, value, mapped}
 use Rattle.outside.specs.Pieces.{Pushed, Absorbed}
 use Rattle.outside.specs.Varint.{varint, groups_within, varints, open_varint, open_varints}
+use Rattle.outside.specs.VarintLaws.{within-last, within-more, within-none, within-ends}
 
 -- ---- one more byte
-
-pub within-last : (room byte : ℕ) (more : List ℕ) → byte < 128 → groups_within (suc room) (byte ∷ more) ≡ Ok (byte, more)
-unfolding groups_within
-within-last room byte more h = let t : ltb byte 128 ≡ true = lt-ltb byte 128 h in rw t refl
-
-pub within-more : (room byte : ℕ) (more : List ℕ) → 128 ≤ byte → groups_within (suc room) (byte ∷ more) ≡ mapped (λ high. byte % 128 + 128 * high) (groups_within room) more
-unfolding groups_within
-within-more room byte more h = let t : ltb byte 128 ≡ false = le-ltb byte 128 h in rw t refl
-
-pub within-none : (more : List ℕ) → groups_within 0 more ≡ Err LongVarint
-unfolding groups_within
-within-none more = refl
 
 abbrev number_and : ℕ → List ℕ → Result (ℕ × List ℕ) RunFault
 number_and n more = Ok (n, more)
@@ -126,10 +114,6 @@ unfolding open_varints
 open_varints-nothing groups count [] bytes e = refl
 open_varints-nothing groups count (x ∷ out) bytes e = absurd (omega arith)
 
-pub within-ends : (room : ℕ) → groups_within (suc room) [] ≡ Err StreamEnds
-unfolding groups_within
-within-ends room = refl
-
 pub open_varints-ends : (groups count asked : ℕ) → count ≤ 9 → 0 < asked → open_varints groups count asked [] ≡ Err StreamEnds
 open_varints-ends groups count asked short h =
     let e : asked ≡ suc (asked - 1) = omega arith in
@@ -145,13 +129,3 @@ one_of (Err fault) = refl
 pub varint-varints : (bytes : List ℕ) → varint bytes ≡ mapped (λ numbers. get_or numbers 0 0) (varints 1) bytes
 unfolding varints
 varint-varints bytes = one_of (varint bytes)
-
--- ---- numbers, one after the other
-
-pub varints-zero : (bytes : List ℕ) → varints 0 bytes ≡ Ok ([], bytes)
-unfolding varints
-varints-zero bytes = refl
-
-pub varints-step : (count : ℕ) (bytes : List ℕ) → varints (suc count) bytes ≡ go_on (varint bytes) (λ number. mapped (λ others. number ∷ others) (varints count))
-unfolding varints
-varints-step count bytes = refl

@@ -19,10 +19,14 @@ pub taken_of-append : (stream : ℕ) (xs ys : List Taken) → taken_of stream (x
 taken_of-append stream [] ys = omega arith
 taken_of-append stream (x ∷ xs) ys = omega (arith, taken_of-append stream xs ys)
 
-taken_of-gave : (test : Bool) (m n rest : ℕ) → (if test then m else 0) + ((if test then n else 0) + rest) ≡ (if test then m + n else 0) + rest
+taken_of-gave : (test : Bool) (m n rest : ℕ)
+    → (if test then m else 0) + ((if test then n else 0) + rest) ≡ (if test then m + n else 0) + rest
 taken_of-gave true m n rest = omega arith
 taken_of-gave false m n rest = omega arith
 
-pub taken_of-sum : (other stream m n : ℕ) (before after : List Taken) → taken_of other (before ++ gave stream m ∷ gave stream n ∷ after) ≡ taken_of other (before ++ gave stream (m + n) ∷ after)
+pub taken_of-sum : (other stream m n : ℕ) (before after : List Taken)
+    → taken_of other (before ++ gave stream m ∷ gave stream n ∷ after)
+    ≡ taken_of other (before ++ gave stream (m + n) ∷ after)
 taken_of-sum other stream m n [] after = taken_of-gave (stream == other) m n (taken_of other after)
-taken_of-sum other stream m n (x ∷ before) after = ap (λ k. (if x.stream == other then x.len else 0) + k) (taken_of-sum other stream m n before after)
+taken_of-sum other stream m n (x ∷ before) after =
+    ap (λ k. (if x.stream == other then x.len else 0) + k) (taken_of-sum other stream m n before after)

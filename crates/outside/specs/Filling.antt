@@ -15,15 +15,19 @@ BreaksWith Run read start count fault = Breaks Run read start count fault
 
 -- Where the values given before and those held are what runs spell of a stream, and `bytes` is its rest: after an Ok
 -- that is so with the values that were given now, and after a fault it is where the stream breaks.
-abbrev pub Continues : {V : Type 0} → (List ℕ → List V → Type 0) → Reader (List V) → List V → List V → ℕ → List ℕ → Option (List ℕ) → Result (List V) RunFault → Type 0
+abbrev pub Continues : {V : Type 0} → (List ℕ → List V → Type 0) → Reader (List V) → List V → List V → ℕ → List ℕ
+    → Option (List ℕ) → Result (List V) RunFault → Type 0
 Continues {V} Run read before held asked bytes after (Ok values) =
-    (rest : List ℕ) × (after ≡ Some rest) × ((start : List ℕ) (given : List V) → Between Run start given before bytes → Between Run start (given ++ values) held rest)
+    (rest : List ℕ) × (after ≡ Some rest) × ((start : List ℕ) (given : List V) → Between Run start given before bytes
+    → Between Run start (given ++ values) held rest)
 Continues {V} Run read before held asked bytes after (Err fault) =
     (start : List ℕ) (given : List V) → Between Run start given before bytes → BreaksWith Run read start (length given + asked) fault
 
 -- A call that gives values from this stream of a feed: it took from no other, a failed read has its cause, and
 -- where the stream was told, the values are those that its runs spell.
-pub record Fills {F V : Type 0} (rest : F → ℕ → Option (List ℕ)) (fed : F → List Taken → F → Type 0) (count : F → ℕ) (Run : List ℕ → List V → Type 0) (read : Reader (List V)) (stream : ℕ) (first last : F) (before held : List V) (asked : ℕ) (answer : Result (List V) RunFault) : Type 0 where
+pub record Fills {F V : Type 0} (rest : F → ℕ → Option (List ℕ)) (fed : F → List Taken → F → Type 0) (count : F → ℕ)
+    (Run : List ℕ → List V → Type 0) (read : Reader (List V)) (stream : ℕ) (first last : F) (before held : List V)
+    (asked : ℕ) (answer : Result (List V) RunFault) : Type 0 where
   pub takes : List Taken
   pub led : fed first takes last
   pub own : AllOf stream takes

@@ -62,7 +62,8 @@ placed y (Err e) = Err e
 
 -- A call read from this stream of a feed: it took from no other, a failed read has its cause, and where
 -- the stream was told, the call answered as the reader does.
-pub record Reads {F Y : Type 0} (rest : F → ℕ → Option (List ℕ)) (fed : F → List Taken → F → Type 0) (count : F → ℕ) (stream : ℕ) (read : Reader Y) (first last : F) (answer : Result Y RunFault) : Type 0 where
+pub record Reads {F Y : Type 0} (rest : F → ℕ → Option (List ℕ)) (fed : F → List Taken → F → Type 0) (count : F → ℕ)
+    (stream : ℕ) (read : Reader Y) (first last : F) (answer : Result Y RunFault) : Type 0 where
   pub takes : List Taken
   pub led : fed first takes last
   pub own : AllOf stream takes

@@ -23,13 +23,16 @@ ranges_read (e ∷ es) = cond e.ok (e.range ∷ ranges_read es) (ranges_read es)
 pub ranges_read-append : (front back : List ReadEntry) → ranges_read (front ++ back) ≡ ranges_read front ++ ranges_read back
 ranges_read-append [] back = refl
 ranges_read-append (e ∷ es) back =
-    elim e.ok as (λ ok. cond ok (e.range ∷ ranges_read (es ++ back)) (ranges_read (es ++ back)) ≡ cond ok (e.range ∷ ranges_read es) (ranges_read es) ++ ranges_read back) [
+    elim e.ok as (λ ok. cond ok (e.range ∷ ranges_read (es ++ back)) (ranges_read (es ++ back))
+    ≡ cond ok (e.range ∷ ranges_read es) (ranges_read es) ++ ranges_read back) [
       | true ↦ ap (λ (xs : List FileRange). e.range ∷ xs) (ranges_read-append es back)
       | false ↦ ranges_read-append es back
     ]
 
 -- a log that grew by some reads, and then by others
 pub read_on : (first between last : Option (List FileRange)) (front back : List ReadEntry)
-    → Extended first between (ranges_read front) → Extended between last (ranges_read back) → Extended first last (ranges_read (front ++ back))
+    → Extended first between (ranges_read front) → Extended between last (ranges_read back)
+    → Extended first last (ranges_read (front ++ back))
 read_on first between last front back p q =
-    subst (λ (xs : List FileRange). Extended first last xs) (sym (ranges_read-append front back)) (Extended-then first between last (ranges_read front) (ranges_read back) p q)
+    subst (λ (xs : List FileRange). Extended first last xs) (sym (ranges_read-append front back))
+    (Extended-then first between last (ranges_read front) (ranges_read back) p q)

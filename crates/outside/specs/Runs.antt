@@ -16,7 +16,8 @@ module _ {V : Type 0} (Run : List ℕ → List V → Type 0) where
   -- The fewest whole runs that hold so many values: no run for no value, and else all but the last hold fewer.
   pub data Fewest : ℕ → List ℕ → List V → Type 0 where
     no_run : Fewest 0 [] []
-    runs : {count : ℕ} {front last : List ℕ} {before values : List V} → Joined front before → length before < count → Run last values → count ≤ length (before ++ values) → Fewest count (front ++ last) (before ++ values)
+    runs : {count : ℕ} {front last : List ℕ} {before values : List V} → Joined front before → length before < count
+        → Run last values → count ≤ length (before ++ values) → Fewest count (front ++ last) (before ++ values)
 
   -- Between two calls of a decoder: the fewest runs for the values given so far are the front of the stream,
   -- they also hold the values that the decoder holds, and the rest of the stream stands behind them.
@@ -42,7 +43,8 @@ module _ {V : Type 0} (Run : List ℕ → List V → Type 0) where
   -- The reader gives the one run that is the front of the bytes, where there is one; a run has a value.
   pub record IsReaderOf (read : Reader (List V)) : Type 0 where
     pub whole : (bytes rest : List ℕ) (values : List V) → Run bytes values → read (bytes ++ rest) ≡ Ok (values, rest)
-    pub only : (bytes rest : List ℕ) (values : List V) → read bytes ≡ Ok (values, rest) → (run : List ℕ) × Run run values × (bytes ≡ run ++ rest)
+    pub only : (bytes rest : List ℕ) (values : List V) → read bytes ≡ Ok (values, rest)
+        → (run : List ℕ) × Run run values × (bytes ≡ run ++ rest)
     pub some : (bytes : List ℕ) (values : List V) → Run bytes values → 0 < length values
 
   -- no spelling of a run is a proper front of the spelling of another
@@ -51,9 +53,12 @@ module _ {V : Type 0} (Run : List ℕ → List V → Type 0) where
 
   -- a stream spells so many values, or it breaks before them
   abbrev pub SpellsOrBreaks : Reader (List V) → List ℕ → ℕ → Type 0
-  SpellsOrBreaks read stream count = ((values : List V) × (rest : List ℕ) × (length values ≡ count) × Spells stream values rest) ⊎ ((fault : RunFault) × Breaks read stream count fault)
+  SpellsOrBreaks read stream count =
+      ((values : List V) × (rest : List ℕ) × (length values ≡ count) × Spells stream values rest)
+      ⊎ ((fault : RunFault) × Breaks read stream count fault)
 
   -- of every stream one of the two holds, and never both
   pub record IsDecided (read : Reader (List V)) : Type 0 where
     pub either : (stream : List ℕ) (count : ℕ) → SpellsOrBreaks read stream count
-    pub not_both : (stream rest : List ℕ) (values : List V) (count : ℕ) (fault : RunFault) → Spells stream values rest → count ≤ length values → Breaks read stream count fault → ⊥
+    pub not_both : (stream rest : List ℕ) (values : List V) (count : ℕ) (fault : RunFault)
+        → Spells stream values rest → count ≤ length values → Breaks read stream count fault → ⊥

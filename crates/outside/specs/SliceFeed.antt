@@ -21,13 +21,18 @@ Fed first takes last = (stream : ℕ) → Lost (taken_of stream takes) (rest_of 
 pub Fed-nothing : (feed : SliceFeed) → Fed feed [] feed
 Fed-nothing feed stream = Lost-nothing (rest_of feed stream)
 
-pub Fed-joined : (first between last : SliceFeed) (xs ys : List Taken) → Fed first xs between → Fed between ys last → Fed first (xs ++ ys) last
+pub Fed-joined : (first between last : SliceFeed) (xs ys : List Taken) → Fed first xs between → Fed between ys last
+    → Fed first (xs ++ ys) last
 Fed-joined first between last xs ys one two stream =
-    rw taken_of-append (Lost-then (taken_of stream xs) (taken_of stream ys) (rest_of first stream) (rest_of between stream) (rest_of last stream) (one stream) (two stream))
+    rw taken_of-append (Lost-then (taken_of stream xs) (taken_of stream ys) (rest_of first stream)
+    (rest_of between stream) (rest_of last stream) (one stream) (two stream))
 
-pub Fed-then : (first between last : SliceFeed) (x : Taken) (ys : List Taken) → Fed first (x ∷ []) between → Fed between ys last → Fed first (x ∷ ys) last
+pub Fed-then : (first between last : SliceFeed) (x : Taken) (ys : List Taken) → Fed first (x ∷ []) between
+    → Fed between ys last → Fed first (x ∷ ys) last
 Fed-then first between last x ys one two = Fed-joined first between last (x ∷ []) ys one two
 
-pub Fed-sum : (first last : SliceFeed) (before after : List Taken) (stream m n : ℕ) → Fed first (before ++ gave stream m ∷ gave stream n ∷ after) last → Fed first (before ++ gave stream (m + n) ∷ after) last
+pub Fed-sum : (first last : SliceFeed) (before after : List Taken) (stream m n : ℕ)
+    → Fed first (before ++ gave stream m ∷ gave stream n ∷ after) last
+    → Fed first (before ++ gave stream (m + n) ∷ after) last
 Fed-sum first last before after stream m n led other =
     subst (λ (k : ℕ). Lost k (rest_of first other) (rest_of last other)) (taken_of-sum other stream m n before after) (led other)

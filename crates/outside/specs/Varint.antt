@@ -25,7 +25,8 @@ pub record IsVarint (bytes : List ℕ) (number : ℕ) : Type 0 where
 -- varints, one after the other: their bytes and their numbers
 pub data AreVarints : List ℕ → List ℕ → Type 0 where
   none : AreVarints [] []
-  one : {bytes more : List ℕ} {number : ℕ} {others : List ℕ} → IsVarint bytes number → AreVarints more others → AreVarints (bytes ++ more) (number ∷ others)
+  one : {bytes more : List ℕ} {number : ℕ} {others : List ℕ} → IsVarint bytes number → AreVarints more others
+      → AreVarints (bytes ++ more) (number ∷ others)
 
 -- ---- reading: ten bytes with their top bit set are too long, whatever follows, and before that the stream may end
 
@@ -33,7 +34,8 @@ pub data AreVarints : List ℕ → List ℕ → Type 0 where
 unfoldable pub groups_within : ℕ → Reader ℕ
 groups_within zero bytes = Err LongVarint
 groups_within (suc room) [] = Err StreamEnds
-groups_within (suc room) (byte ∷ bytes) = if nat_lt byte 128 then Ok (byte, bytes) else mapped (λ high. byte % 128 + 128 * high) (groups_within room) bytes
+groups_within (suc room) (byte ∷ bytes) =
+    if nat_lt byte 128 then Ok (byte, bytes) else mapped (λ high. byte % 128 + 128 * high) (groups_within room) bytes
 
 -- one number
 abbrev pub varint : Reader ℕ

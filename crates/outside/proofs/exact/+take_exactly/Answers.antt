@@ -2,7 +2,8 @@ use Rattle.std.proofs.Common.{length, ◌≡◌, ◌-◌, ◌≤◌, ◌++◌, a
 use Rattle.std.proofs.lemmas.Bool.{eqb-true}
 use Rattle.outside.specs.Feed.{Took}
 use Rattle.outside.specs.Reading.{exactly, mapped, value}
-use Rattle.outside.proofs.Reading.{Reads-same, Reads-value, Reads-piece, Reads-placed, exactly-nothing, exactly-piece}
+use Rattle.outside.specs.ReadingLaws.{Reads-same, Reads-value, Reads-piece, Reads-placed}
+use Rattle.outside.proofs.Reading.{exactly-nothing, exactly-piece}
 use Rattle.outside.proofs.exact.+take_exactly.Goals as goal
 
 pub returns-then-is_empty : goal.returns-then-is_empty

@@ -1,7 +1,8 @@
 use Rattle.std.proofs.Common.{get_or, Err}
 use Rattle.std.proofs.lemmas.Result.{err_from_is_err_and}
 use Rattle.outside.specs.Reading.{byte, exactly, mapped, value}
-use Rattle.outside.proofs.Reading.{Reads-same, Reads-map, Reads-fault, byte-exactly}
+use Rattle.outside.specs.ReadingLaws.{Reads-same, Reads-map, Reads-fault}
+use Rattle.outside.proofs.Reading.{byte-exactly}
 use Rattle.outside.proofs.exact.take_byte.Goals as goal
 
 pub returns-in_err-take_exactly : goal.returns-in_err-take_exactly

@@ -3,7 +3,7 @@ use Rattle.std.proofs.lemmas.Bool.{eqb-true}
 use Rattle.std.proofs.lemmas.List.{length-take-le}
 use Rattle.outside.specs.Reading.{mapped, value}
 use Rattle.outside.specs.Varint.{open_varints}
-use Rattle.outside.proofs.Reading.{Reads-same, Reads-value, Reads-piece, Reads-placed, Reads-end}
+use Rattle.outside.specs.ReadingLaws.{Reads-same, Reads-value, Reads-piece, Reads-placed, Reads-end}
 use Rattle.outside.proofs.Varint.{open_varints-nothing, open_varints-ends}
 use Rattle.outside.proofs.varints.+take_open.Goals as goal
 

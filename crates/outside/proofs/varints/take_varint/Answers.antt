@@ -3,7 +3,7 @@ use Rattle.std.proofs.lemmas.Result.{err_from_is_err_and}
 use Rattle.outside.specs.Reading.{mapped, value}
 use Rattle.outside.specs.Varint.{varint, varints}
 use Rattle.outside.proofs.Varint.{varint-varints}
-use Rattle.outside.proofs.Reading.{Reads-same, Reads-map, Reads-fault}
+use Rattle.outside.specs.ReadingLaws.{Reads-same, Reads-map, Reads-fault}
 use Rattle.outside.proofs.varints.take_varint.Goals as goal
 
 pub returns-in_err-take_varints : goal.returns-in_err-take_varints

@@ -1,6 +1,6 @@
 use Rattle.std.proofs.Common.{length, sym}
 use Rattle.outside.specs.Varint.{varints, open_varints}
-use Rattle.outside.proofs.Reading.{Reads-same}
+use Rattle.outside.specs.ReadingLaws.{Reads-same}
 use Rattle.outside.proofs.Varint.{open_varints-fresh}
 use Rattle.outside.proofs.varints.take_varints.Goals as goal
 
