@@ -1,6 +1,6 @@
 -- A stripe's columns, started and given batch by batch, are its rows.
 use Rattle.std.proofs.Common.{◌≡◌, ℕ, ◌+◌, ◌<◌, ◌≤◌, List, [], ◌∷◌, ◌++◌, length, Option, Ok, Err, refl, sym, ◌∙◌, ap, subst, arith, inl, inr}
-use Rattle.std.specs.Prelude.{Result, IfOk}
+use Rattle.std.specs.Prelude.{Result, IfOk, IfErr}
 use Rattle.outside.specs.declared.file_ref.FileRef.{FileRef}
 use Rattle.outside.specs.Cause.{Rose}
 use Rattle.outside.specs.Feed.{Taken}
@@ -20,12 +20,12 @@ use Rattle.orc_streams.specs.Acts.{Act, take_acts}
 use Rattle.orc_streams.specs.Laws.{PlansAreApart}
 use Rattle.orc_streams.specs.Layout.{layout_in, plan_at, plans_from, streams_in}
 use Rattle.orc_batches.specs.Batch.{Batch, Piece, joined, AreCut}
-use Rattle.orc_batches.specs.Batches.{plans_of, kinds_of, ApartFrom, AllApart, TellsEach}
+use Rattle.orc_batches.specs.Batches.{plans_of, kinds_of, round_of, ApartFrom, AllApart, TellsEach}
 use Rattle.orc_batches.specs.Walk.{rounds, EachMidway, OneFailsWithin, WalkTurns, WalkCuts, WalkedTo, Eaten, Walked}
 use Rattle.orc_rows.specs.Given.{kinds_in, no_rows}
 use Rattle.orc_rows.specs.Rows.{HaveValues}
 use Rattle.orc_rows.specs.Starting.{layouts_in, starts_in, EachStarts}
-use Rattle.orc_rows.specs.Giving.{ColumnActs, GivesSaid, Gives}
+use Rattle.orc_rows.specs.Giving.{ColumnActs, ColumnsEnd, GivesSaid, Gives}
 use Rattle.orc_rows.proofs.AnyPlace.{column_anywhere}
 
 -- ---- the plans of a footer's columns
@@ -145,6 +145,7 @@ module _ {S C : Type 0} (did : S → List Act → S → Type 0) (rest : S → �
     acts = s.acts;
     by = s.by;
     order = tt;
+    ends = ColumnsEnd.not_started s.ends;
     cause = record { later = s.cause.later; failed = λ f. s.cause.failed f };
     given = λ bytes has. decided_none never_both bytes footer 0 rows columns fault (omega arith) (s.told bytes has);
   }
@@ -162,6 +163,7 @@ module _ {S C : Type 0} (did : S → List Act → S → Type 0) (rest : S → �
       acts = s.acts ++ take_acts w.takes;
       by = joins before between after s.acts (take_acts w.takes) s.by (did_take between after w.takes w.led);
       order = order answer w.turns;
+      ends = ends answer w.turns;
       cause = record { later = omega (arith, s.cause.later, w.cause.later); failed = λ f. rose (w.cause.failed f) };
       given = λ bytes has. given answer bytes (s.told bytes has) (w.told 0 (starts_in bytes (layouts_in footer columns)));
     }
@@ -183,6 +185,10 @@ module _ {S C : Type 0} (did : S → List Act → S → Type 0) (rest : S → �
           turns = subst (λ (ps : List ColumnPlan). InTurn (rounds ps w.batches) w.takes) s.readers.0 turns;
         }
         order (Err fault) turns = tt
+
+        ends : (answer : Result Y ColumnFault) → WalkTurns (plans_of readers) w.batches w.takes answer → IfErr answer (λ fault. ColumnsEnd file footer columns w.batches fault (s.acts ++ take_acts w.takes))
+        ends (Ok y) turns = tt
+        ends (Err fault) turns = ColumnsEnd.within s.acts w.takes s.order (subst (λ (ps : List ColumnPlan). InTurn (rounds ps w.batches ++ round_of ps) w.takes) s.readers.0 turns)
 
         given : (answer : Result Y ColumnFault) (bytes : List ℕ)
             → (lefts : List Streams) × TellsEach rest between (plans_from 0 (layouts_in footer columns)) lefts × EachMidway 0 readers (starts_in bytes (layouts_in footer columns)) (no_rows (layouts_in footer columns)) lefts

@@ -1,6 +1,6 @@
 -- Columns are opened and started, one after the other.
 use Rattle.std.proofs.Common.{◌≡◌, ℕ, ◌+◌, List, [], ◌∷◌, ◌++◌, length, Option, None, Ok, Err, refl, sym, ◌∙◌, ap, arith, inl, inr}
-use Rattle.std.specs.Prelude.{Result, IfOk}
+use Rattle.std.specs.Prelude.{Result, IfOk, IfErr}
 use Rattle.outside.specs.declared.file_ref.FileRef.{FileRef}
 use Rattle.outside.specs.Cause.{Cause, Rose}
 use Rattle.outside.specs.Feed.{Taken}
@@ -18,13 +18,15 @@ use Rattle.orc_columns.specs.Turns.{start_streams}
 use Rattle.orc_streams.specs.declared.layout.ColumnLayout.{ColumnLayout}
 use Rattle.orc_streams.specs.declared.layout.ReadColumn.{ReadColumn}
 use Rattle.orc_tail.specs.declared.stripe_footer.StripeFooter.{StripeFooter}
-use Rattle.orc_streams.specs.Acts.{Act, take_acts}
+use Rattle.orc_streams.specs.declared.stream_reader.OpenFault.{OpenFault}
+use Rattle.orc_streams.specs.declared.stream_reader.OpenFault.TheVariants as open_fault
+use Rattle.orc_streams.specs.Acts.{Act, take_acts, FailedToOpen}
 use Rattle.orc_streams.specs.Laws.{PlansAreApart}
 use Rattle.orc_streams.specs.Layout.{plan_at, plans_from, streams_in}
 use Rattle.orc_streams.specs.Openings.{spans_of, openings_at, OpensAll}
 use Rattle.orc_batches.specs.Batches.{plans_of, AllFresh}
 use Rattle.orc_batches.specs.Walk.{EachMidway, OneFailsWithin}
-use Rattle.orc_rows.specs.Starting.{layouts_in, starts_in, StartActs, EachStartActs, StartSaid, Starts, EachStartSaid, EachStarts}
+use Rattle.orc_rows.specs.Starting.{layouts_in, starts_in, StartActs, of_opening, StartEnds, EachStartActs, EachStartEnds, StartSaid, Starts, EachStartSaid, EachStarts}
 
 module _ {S : Type 0} (did : S → List Act → S → Type 0) (rest : S → ℕ → Option (List ℕ)) (fed : S → List Taken → S → Type 0) (count : S → ℕ) (files : Option Files) (file : FileRef)
     (joins : (first between last : S) (front back : List Act) → did first front between → did between back last → did first (front ++ back) last)
@@ -40,6 +42,7 @@ module _ {S : Type 0} (did : S → List Act → S → Type 0) (rest : S → ℕ 
     acts = o.acts ++ take_acts d.takes;
     by = joins before between after o.acts (take_acts d.takes) o.by (did_take between after d.takes d.led);
     order = order answer;
+    ends = ends answer;
     cause = record { later = omega (arith, o.cause.later, d.cause.later); failed = λ f. rose (d.cause.failed f) };
     others = λ i l s differ was. leave (plan_at index layout) (plan_at i l) s between after d.takes (apart index i layout l (λ e. differ (sym e))) d.own d.led (others i l s differ was);
     told = λ bytes has. said answer bytes (d.told (streams_in bytes layout) (tells bytes has));
@@ -53,10 +56,37 @@ module _ {S : Type 0} (did : S → List Act → S → Type 0) (rest : S → ℕ 
       order (Ok r) = record { takes = d.takes; turns = d.turns; acts_are = ap (λ (xs : List Act). xs ++ take_acts d.takes) o.fits }
       order (Err fault) = tt
 
+      ends : (answer : Result ReaderOf ColumnFault) → IfErr answer (λ fault. StartEnds file index layout fault (o.acts ++ take_acts d.takes))
+      ends (Ok r) = tt
+      ends (Err fault) = StartEnds.opened (record { takes = d.takes; turns = d.turns; acts_are = ap (λ (xs : List Act). xs ++ take_acts d.takes) o.fits })
+
       said : (answer : Result ReaderOf ColumnFault) (bytes : List ℕ) → Said rest fed count (plan_at index layout) Begins (FailsAtStart (plan_at index layout)) (streams_in bytes layout) after answer
           → StartSaid did rest count files file index layout bytes after answer
       said (Ok r) bytes s = s
       said (Err fault) bytes s = s
+
+  -- a column's streams weren't opened
+  pub not_opened : (index : ℕ) (layout : ColumnLayout) (before between : S) (fault : OpenFault)
+      → OpensAll {Y = Unit {0}} did rest count files file (spans_of (openings_at index layout)) before between (Err fault)
+      → ((i : ℕ) (l : ColumnLayout) (s : Streams) → (i ≡ index → ⊥) → Tells rest before (plan_at i l) s → Tells rest between (plan_at i l) s)
+      → Starts did rest count files file index layout before between (Err (of_opening fault))
+  not_opened index layout before between fault o others = record {
+    acts = o.acts;
+    by = o.by;
+    order = tt;
+    ends = StartEnds.not_opened fault o.fits;
+    cause = record { later = o.cause.later; failed = λ f. failed fault o.cause.failed f };
+    others = others;
+    told = λ bytes has. said fault bytes;
+  }
+    where
+      failed : (fault : OpenFault) → (FailedToOpen {T = Unit {0}} (Err fault) → Rose (count before) (count between)) → FailedToRead {Y = ReaderOf} (Err (of_opening fault)) → Rose (count before) (count between)
+      failed (open_fault.Read e) rose f = rose tt
+      failed open_fault.NoMemory rose f = absurd f
+
+      said : (fault : OpenFault) (bytes : List ℕ) → StartSaid did rest count files file index layout bytes between (Err (of_opening fault))
+      said (open_fault.Read e) bytes = tt
+      said open_fault.NoMemory bytes = tt
 
   -- ---- columns, of which the first has that place
 
@@ -66,6 +96,7 @@ module _ {S : Type 0} (did : S → List Act → S → Type 0) (rest : S → ℕ 
     acts = [];
     by = nothing reader;
     order = refl;
+    ends = tt;
     readers = (refl, tt);
     cause = record { later = omega arith; failed = λ f. absurd f };
     others = λ i l s less tells. tells;
@@ -106,6 +137,7 @@ module _ {S : Type 0} (did : S → List Act → S → Type 0) (rest : S → ℕ 
       acts = s.acts;
       by = s.by;
       order = tt;
+      ends = EachStartEnds.here s.ends;
       readers = tt;
       cause = record { later = s.cause.later; failed = λ f. s.cause.failed f };
       others = λ i l t less tells. s.others i l t (λ e. omega (arith, e, less)) tells;
@@ -119,6 +151,7 @@ module _ {S : Type 0} (did : S → List Act → S → Type 0) (rest : S → ℕ 
       acts = s.acts;
       by = s.by;
       order = tt;
+      ends = EachStartEnds.here (StartEnds.opened s.order);
       readers = tt;
       cause = record { later = s.cause.later; failed = λ f. absurd f };
       others = λ i l t less tells. s.others i l t (λ e. omega (arith, e, less)) tells;
@@ -133,6 +166,7 @@ module _ {S : Type 0} (did : S → List Act → S → Type 0) (rest : S → ℕ 
       acts = s.acts ++ more.acts;
       by = joins before between after s.acts more.acts s.by more.by;
       order = order answer more.order;
+      ends = ends answer more.ends;
       readers = readers answer more.readers;
       cause = cause answer more.cause;
       others = λ i l t less tells. more.others i l t (omega (arith, less)) (s.others i l t (λ e. omega (arith, e, less)) tells);
@@ -147,6 +181,11 @@ module _ {S : Type 0} (did : S → List Act → S → Type 0) (rest : S → ℕ 
             → IfOk (placed (r ∷ rs) answer) (λ readers. EachStartActs file index (layout ∷ layouts) (s.acts ++ more.acts))
         order (Ok y) o = (s.acts, more.acts, refl, s.order, o)
         order (Err fault) o = tt
+
+        ends : (answer : Result Y ColumnFault) → IfErr (placed rs answer) (λ fault. EachStartEnds file (index + 1) layouts fault more.acts)
+            → IfErr (placed (r ∷ rs) answer) (λ fault. EachStartEnds file index (layout ∷ layouts) fault (s.acts ++ more.acts))
+        ends (Ok y) e = tt
+        ends (Err fault) e = EachStartEnds.later s.order e
 
         readers : (answer : Result Y ColumnFault) → IfOk (placed rs answer) (λ readers. (plans_of readers ≡ plans_from (index + 1) layouts) × AllFresh readers)
             → IfOk (placed (r ∷ rs) answer) (λ readers. (plans_of readers ≡ plans_from index (layout ∷ layouts)) × AllFresh readers)

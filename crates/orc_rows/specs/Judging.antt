@@ -1,20 +1,25 @@
 -- Columns of a stripe are judged in their order. Source: this project's own.
-use Rattle.std.specs.Prelude.{ℕ, List, Option, Some, None, Result, IfOk, IfSome}
+use Rattle.std.specs.Prelude.{◌≡◌, ℕ, ◌+◌, List, [], ◌∷◌, ◌++◌, Option, Some, None, Result, Ok, Err, IfOk, IfSome}
 use Rattle.outside.specs.declared.file_ref.FileRef.{FileRef}
 use Rattle.outside.specs.Cause.{Cause}
+use Rattle.outside.specs.Feed.{Taken}
 use Rattle.outside.specs.Files.{Files, HasBytes}
 use Rattle.orc_values.specs.Column.{RowValues}
 use Rattle.orc_columns.specs.declared.fault.ColumnFault.{ColumnFault}
 use Rattle.orc_columns.specs.declared.fault.ColumnFault.TheVariants.{BadEncoding, Run, NegativeLength, LengthsPastData, IndexOutOfDictionary, Read, NoMemory}
 use Rattle.orc_columns.specs.Batches.{HoldsNoRead}
+use Rattle.orc_columns.specs.Turns.{InTurn, judged_streams}
 use Rattle.orc_tail.specs.declared.stripe_footer.StripeFooter.{StripeFooter}
 use Rattle.orc_streams.specs.declared.layout.ColumnLayout.{ColumnLayout}
 use Rattle.orc_streams.specs.declared.layout.ReadColumn.{ReadColumn}
 use Rattle.orc_streams.specs.declared.stream_reader.OpenFault.{OpenFault}
-use Rattle.orc_streams.specs.Acts.{Act, FailedToOpen}
+use Rattle.orc_streams.specs.Acts.{Act, take_acts, FailedToOpen}
+use Rattle.orc_streams.specs.Layout.{plan_at}
+use Rattle.orc_streams.specs.Openings.{spans_of, openings_at, all_opened, FitOpenings}
 use Rattle.orc_batches.specs.Batch.{Batch}
 use Rattle.orc_rows.specs.declared.judge.Refused.{Refused}
 use Rattle.orc_rows.specs.Rows.{HasValues, HasFault, HaveValues, FirstColumnFails}
+use Rattle.orc_rows.specs.Starting.{layouts_in}
 
 -- the content's own fault: neither a failed read nor want of memory
 abbrev pub IsContent : ColumnFault → Type 0
@@ -36,22 +41,65 @@ abbrev pub FindsFirst : List ℕ → StripeFooter → List ReadColumn → ℕ �
 FindsFirst bytes footer columns rows None = (values : Batch) × HaveValues bytes footer rows columns values
 FindsFirst bytes footer columns rows (Some refused) = FirstColumnFails bytes footer rows columns refused.column refused.fault
 
+-- ---- acts
+
+-- The column of that place was judged: its streams were opened, and taken from in turn, each over all rows; up to its fault.
+pub record JudgeActs (file : FileRef) (index : ℕ) (layout : ColumnLayout) (acts : List Act) : Type 0 where
+  pub takes : List Taken
+  pub turns : InTurn (judged_streams (plan_at index layout)) takes
+  pub acts_are : acts ≡ all_opened file (spans_of (openings_at index layout)) ++ take_acts takes
+
+-- It wasn't, since a read failed or memory was refused: its streams were opened up to one; or all were, and the rest as above, or a
+-- front of it.
+pub data JudgeEnds (file : FileRef) (index : ℕ) (layout : ColumnLayout) (fault : OpenFault) (acts : List Act) : Type 0 where
+  not_opened : FitOpenings {Y = Unit {0}} file (spans_of (openings_at index layout)) acts (Err fault)
+      → JudgeEnds file index layout fault acts
+  opened : JudgeActs file index layout acts → JudgeEnds file index layout fault acts
+
+-- the acts of a judging that answered so
+abbrev pub JudgeOrder : {Y : Type 0} → FileRef → ℕ → ColumnLayout → List Act → Result Y OpenFault → Type 0
+JudgeOrder file index layout acts (Ok found) = JudgeActs file index layout acts
+JudgeOrder file index layout acts (Err fault) = JudgeEnds file index layout fault acts
+
+-- columns, of which the first has that place, were judged one after the other
+abbrev pub EachJudgeActs : FileRef → ℕ → List ColumnLayout → List Act → Type 0
+EachJudgeActs file index [] acts = acts ≡ []
+EachJudgeActs file index (layout ∷ layouts) acts =
+    (front : List Act) × (back : List Act) × (acts ≡ front ++ back) × JudgeActs file index layout front
+    × EachJudgeActs file (index + 1) layouts back
+
+-- They were up to one, whose acts are the last.
+pub data JudgedUpTo (file : FileRef) (Last : ℕ → ColumnLayout → List Act → Type 0) : ℕ → List ColumnLayout → List Act → Type 0 where
+  here : {index : ℕ} {layout : ColumnLayout} {layouts : List ColumnLayout} {acts : List Act} → Last index layout acts
+      → JudgedUpTo file Last index (layout ∷ layouts) acts
+  later : {index : ℕ} {layout : ColumnLayout} {layouts : List ColumnLayout} {front back : List Act}
+      → JudgeActs file index layout front → JudgedUpTo file Last (index + 1) layouts back
+      → JudgedUpTo file Last index (layout ∷ layouts) (front ++ back)
+
+-- the acts of judging columns: all, where none is refused; up to the one that is; or up to the one that wasn't judged
+abbrev pub EachJudgeOrder : FileRef → ℕ → List ColumnLayout → List Act → Result (Option Refused) OpenFault → Type 0
+EachJudgeOrder file index layouts acts (Ok None) = EachJudgeActs file index layouts acts
+EachJudgeOrder file index layouts acts (Ok (Some refused)) = JudgedUpTo file (λ i l. JudgeActs file i l) index layouts acts
+EachJudgeOrder file index layouts acts (Err fault) = JudgedUpTo file (λ i l. JudgeEnds file i l fault) index layouts acts
+
 module _ {S : Type 0} (did : S → List Act → S → Type 0) (count : S → ℕ) (files : Option Files) (file : FileRef) where
   -- A column was judged: by some acts, a failed read has its cause, a fault that is found is the content's own, and where the file
   -- is told it is what is found.
-  pub record JudgesOne (layout : ColumnLayout) (rows : ℕ) (before after : S)
+  pub record JudgesOne (index : ℕ) (layout : ColumnLayout) (rows : ℕ) (before after : S)
       (answer : Result (Option ColumnFault) OpenFault) : Type 0 where
     pub acts : List Act
     pub by : did before acts after
+    pub order : JudgeOrder file index layout acts answer
     pub cause : Cause (count before) (count after) (FailedToOpen answer)
     pub content : IfOk answer (λ found. IfSome found IsContent)
     pub told : (bytes : List ℕ) → HasBytes files file bytes → IfOk answer (FindsOne bytes layout rows)
 
   -- the same of columns
-  pub record JudgesEach (footer : StripeFooter) (columns : List ReadColumn) (rows : ℕ) (before after : S)
+  pub record JudgesEach (index : ℕ) (footer : StripeFooter) (columns : List ReadColumn) (rows : ℕ) (before after : S)
       (answer : Result (Option Refused) OpenFault) : Type 0 where
     pub acts : List Act
     pub by : did before acts after
+    pub order : EachJudgeOrder file index (layouts_in footer columns) acts answer
     pub cause : Cause (count before) (count after) (FailedToOpen answer)
     pub content : IfOk answer (λ found. IfSome found (λ refused. IsContent refused.fault))
     pub told : (bytes : List ℕ) → HasBytes files file bytes → IfOk answer (FindsFirst bytes footer columns rows)

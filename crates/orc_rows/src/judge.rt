@@ -37,7 +37,7 @@ pub fn judge_column<W: World, S: StreamReader<W>>(
     requires few { index < 16 }
     requires readable { IsReadable W.files file }
     requires in_file { EndsBy file.len layout }
-    ensures judges { JudgesOne S.did S.Feed.fault_count W.files file layout rows reader.old reader.new result }
+    ensures judges { JudgesOne S.did S.Feed.fault_count W.files file index layout rows reader.old reader.new result }
 {
     open_column(alloc, reader, file, index, layout)?;
     match first_fault(layout.plan(index), reader, rows) {
@@ -79,7 +79,7 @@ pub fn judge_columns<W: World, S: StreamReader<W>>(
     requires few { index + length columns.now ≤ 16 }
     requires readable { IsReadable W.files file }
     requires in_file { (column : ReadColumn) → EndsBy file.len (layout_in footer.now column) }
-    ensures judges { JudgesEach S.did S.Feed.fault_count W.files file footer.now columns.now rows reader.old reader.new result }
+    ensures judges { JudgesEach S.did S.Feed.fault_count W.files file index footer.now columns.now rows reader.old reader.new result }
 {
     let Some((column, others)) = columns.split_first() else {
         return Ok(None);

@@ -21,9 +21,9 @@ use Rattle.orc_walk.specs.declared.stop.Stop.{Stop}
 use Rattle.orc_walk.specs.declared.stop.Stop.TheVariants as stop
 use Rattle.orc_rows.specs.Judging.{IsContent, JudgesEach}
 use Rattle.orc_rows.specs.Rows.{HaveValues}
-use Rattle.orc_rows.specs.Giving.{Gives}
+use Rattle.orc_rows.specs.Giving.{ColumnsEnd, Gives}
 use Rattle.orc_walk.specs.Stops.{stop_of_column, IfFault, IsRowsContent, EatenBy, StoppedByRead, IsReadStop, IfFaulty}
-use Rattle.orc_walk.specs.StripeWalk.{ColumnsFail, Blames, WalksColumns}
+use Rattle.orc_walk.specs.StripeWalk.{ColumnsFail, ColumnsStop, Blames, WalksColumns}
 
 -- ---- what stops
 
@@ -83,35 +83,65 @@ failed_of Y NegativeLength failed e = absurd (fault_no_read NegativeLength faile
 failed_of Y LengthsPastData failed e = absurd (fault_no_read LengthsPastData failed (sym e))
 failed_of Y IndexOutOfDictionary failed e = absurd (fault_no_read IndexOutOfDictionary failed (sym e))
 
+-- the fault is the one by which it stopped
+read_by : (fault : ColumnFault) (failed : Failed) → stop.Read failed ≡ stop_of_column fault → fault ≡ Read failed
+read_by (Read other) failed e = cc
+read_by NoMemory failed e = absurd (read_no_memory failed (stop.Read failed) refl e)
+read_by BadEncoding failed e = absurd (fault_no_read BadEncoding failed (sym e))
+read_by (Run name fault) failed e = absurd (fault_no_read (Run name fault) failed (sym e))
+read_by NegativeLength failed e = absurd (fault_no_read NegativeLength failed (sym e))
+read_by LengthsPastData failed e = absurd (fault_no_read LengthsPastData failed (sym e))
+read_by IndexOutOfDictionary failed e = absurd (fault_no_read IndexOutOfDictionary failed (sym e))
+
+refused_by : (fault : ColumnFault) → stop.NoMemory ≡ stop_of_column fault → fault ≡ NoMemory
+refused_by (Read other) e = absurd (read_no_memory other stop.NoMemory e refl)
+refused_by NoMemory e = refl
+refused_by BadEncoding e = absurd (fault_no_memory BadEncoding (sym e))
+refused_by (Run name fault) e = absurd (fault_no_memory (Run name fault) (sym e))
+refused_by NegativeLength e = absurd (fault_no_memory NegativeLength (sym e))
+refused_by LengthsPastData e = absurd (fault_no_memory LengthsPastData (sym e))
+refused_by IndexOutOfDictionary e = absurd (fault_no_memory IndexOutOfDictionary (sym e))
+
+fault_by : (fault other : ColumnFault) → stop.Fault other ≡ stop_of_column fault → fault ≡ other
+fault_by (Read failed) other e = absurd (fault_no_read other failed e)
+fault_by NoMemory other e = absurd (fault_no_memory other e)
+fault_by BadEncoding other e = sym (same other BadEncoding e)
+fault_by (Run name fault) other e = sym (same other (Run name fault) e)
+fault_by NegativeLength other e = sym (same other NegativeLength e)
+fault_by LengthsPastData other e = sym (same other LengthsPastData e)
+fault_by IndexOutOfDictionary other e = sym (same other IndexOutOfDictionary e)
+
 -- ---- the first that fails
 
 module _ {S : Type 0} (did : S → List Act → S → Type 0) (count : S → ℕ) (files : Option Files) (file : FileRef) (footer : StripeFooter) (columns : List ReadColumn) (rows number : ℕ) (before after : S) where
-  pub blamed_found : (refused : Refused) → JudgesEach did count files file footer columns rows before after (Ok (Some refused))
+  pub blamed_found : (refused : Refused) → JudgesEach did count files file 0 footer columns rows before after (Ok (Some refused))
       → Blames did count files file footer columns rows number before after (stop.Fault (BrokenColumn number refused.column refused.fault))
   blamed_found refused j = record {
     acts = j.acts;
     by = j.by;
+    order = inl j.order;
     cause = record { later = j.cause.later; failed = λ f. absurd f };
     content = j.content;
     fails = λ bytes has. (refused.column, refused.fault, refl, j.told bytes has);
   }
 
   pub blamed_none : (which : ℕ) (fault : ColumnFault) → IsContent fault → ((bytes : List ℕ) → HasBytes files file bytes → (values : Batch) → HaveValues bytes footer rows columns values → ⊥)
-      → JudgesEach did count files file footer columns rows before after (Ok None) → Blames did count files file footer columns rows number before after (stop.Fault (BrokenColumn number which fault))
+      → JudgesEach did count files file 0 footer columns rows before after (Ok None) → Blames did count files file footer columns rows number before after (stop.Fault (BrokenColumn number which fault))
   blamed_none which fault content none j = record {
     acts = j.acts;
     by = j.by;
+    order = inr j.order;
     cause = record { later = j.cause.later; failed = λ f. absurd f };
     content = content;
     fails = λ bytes has. absurd (let have = j.told bytes has in none bytes has have.0 have.1);
   }
 
-  pub blamed_read : (failed : Failed) → JudgesEach did count files file footer columns rows before after (Err (open_fault.Read failed))
+  pub blamed_read : (failed : Failed) → JudgesEach did count files file 0 footer columns rows before after (Err (open_fault.Read failed))
       → Blames did count files file footer columns rows number before after (stop.Read failed)
-  blamed_read failed j = record { acts = j.acts; by = j.by; cause = record { later = j.cause.later; failed = λ f. j.cause.failed f }; content = tt; fails = λ bytes has. tt }
+  blamed_read failed j = record { acts = j.acts; by = j.by; order = j.order; cause = record { later = j.cause.later; failed = λ f. j.cause.failed f }; content = tt; fails = λ bytes has. tt }
 
-  pub blamed_memory : JudgesEach did count files file footer columns rows before after (Err open_fault.NoMemory) → Blames did count files file footer columns rows number before after stop.NoMemory
-  blamed_memory j = record { acts = j.acts; by = j.by; cause = record { later = j.cause.later; failed = λ f. absurd f }; content = tt; fails = λ bytes has. tt }
+  pub blamed_memory : JudgesEach did count files file 0 footer columns rows before after (Err open_fault.NoMemory) → Blames did count files file footer columns rows number before after stop.NoMemory
+  blamed_memory j = record { acts = j.acts; by = j.by; order = j.order; cause = record { later = j.cause.later; failed = λ f. absurd f }; content = tt; fails = λ bytes has. tt }
 
 -- ---- the columns
 
@@ -126,6 +156,7 @@ module _ {S C : Type 0} (did : S → List Act → S → Type 0) (count : S → �
     acts = g.acts;
     by = g.by;
     order = g.order;
+    stops = tt;
     cause = record { later = g.cause.later; failed = λ f. absurd f };
     content = tt;
     has = λ bytes has. g.given bytes has;
@@ -141,20 +172,22 @@ module _ {S C : Type 0} (did : S → List Act → S → Type 0) (count : S → �
       acts = g.acts;
       by = g.by;
       order = tt;
+      stops = ColumnsStop.read_failed failed (subst (λ (f : ColumnFault). ColumnsEnd file footer columns g.batches f g.acts) (read_by fault failed e) g.ends);
       cause = record { later = g.cause.later; failed = λ f. g.cause.failed (failed_of Y fault failed e) };
       content = tt;
       has = λ bytes has. tt;
       fails = λ bytes has. tt;
     }
 
-    pub stopped_memory : WalksColumns did count files ate file {Y = Y} footer columns rows number before between eater eater' (Err stop.NoMemory)
-    stopped_memory = record {
+    pub stopped_memory : stop.NoMemory ≡ stop_of_column fault → WalksColumns did count files ate file {Y = Y} footer columns rows number before between eater eater' (Err stop.NoMemory)
+    stopped_memory e = record {
       batches = g.batches;
       eaten = tt;
       cut = tt;
       acts = g.acts;
       by = g.by;
       order = tt;
+      stops = ColumnsStop.refused (subst (λ (f : ColumnFault). ColumnsEnd file footer columns g.batches f g.acts) (refused_by fault e) g.ends);
       cause = record { later = g.cause.later; failed = λ f. absurd f };
       content = tt;
       has = λ bytes has. tt;
@@ -166,15 +199,16 @@ module _ {S C : Type 0} (did : S → List Act → S → Type 0) (count : S → �
     none_by other e bytes has = decided_of ((values : Batch) → HaveValues bytes footer rows columns values → ⊥) fault other e (g.given bytes has)
 
     pub stopped_fault : ((first last final : S) (front back : List Act) → did first front last → did last back final → did first (front ++ back) final)
-        → (other : ColumnFault) (after : S) (why : Stop RowsFault) → stop.Fault other ≡ stop_of_column fault → Blames did count files file footer columns rows number between after why
+        → HoldsNoRead fault → (other : ColumnFault) (after : S) (why : Stop RowsFault) → stop.Fault other ≡ stop_of_column fault → Blames did count files file footer columns rows number between after why
         → WalksColumns did count files ate file {Y = Y} footer columns rows number before after eater eater' (Err why)
-    stopped_fault joins other after why e b = record {
+    stopped_fault joins holds other after why e b = record {
       batches = g.batches;
       eaten = eaten_by Y (ate eater (pieces_of g.batches) eater') why (eaten_of Y (ate eater (pieces_of g.batches) eater') fault (λ f. fault_no_memory other (e ∙ f)) g.eaten);
       cut = tt;
       acts = g.acts ++ b.acts;
       by = joins before between after g.acts b.acts g.by b.by;
       order = tt;
+      stops = ColumnsStop.judged b.acts other (content_of fault other holds e) (subst (λ (f : ColumnFault). ColumnsEnd file footer columns g.batches f g.acts) (fault_by fault other e) g.ends) b.order;
       cause = cause why b.cause;
       content = content why b.content;
       has = λ bytes has. tt;

@@ -1,6 +1,6 @@
 -- A stripe's count, or its footer and then its columns.
 use Rattle.std.proofs.Common.{◌≡◌, ℕ, ◌<◌, ◌≤◌, List, [], ◌∷◌, ◌++◌, length, Option, Ok, Err, refl, sym, ap, subst, arith, inl, inr}
-use Rattle.std.specs.Prelude.{Result, IfOk}
+use Rattle.std.specs.Prelude.{Result, IfOk, IfErr}
 use Rattle.outside.specs.declared.file_ref.FileRef.{FileRef}
 use Rattle.outside.specs.Cause.{Rose}
 use Rattle.outside.specs.Files.{Files}
@@ -25,7 +25,7 @@ use Rattle.orc_rows.specs.Rows.{HaveValues, StripeHas, StripeFails}
 use Rattle.orc_walk.specs.declared.stop.Stop.{Stop}
 use Rattle.orc_walk.specs.declared.stop.Stop.TheVariants as stop
 use Rattle.orc_walk.specs.Stops.{stop_of_footer, EatenBy, StoppedByRead, IfFault, IsRowsContent}
-use Rattle.orc_walk.specs.StripeWalk.{ColumnsFail, WalksColumns, IsFooterRead, IsStripeWalk, WalksStripe}
+use Rattle.orc_walk.specs.StripeWalk.{ColumnsFail, ColumnsStop, WalksColumns, IsFooterRead, IsStripeWalk, IsStripeStop, WalksStripe}
 
 -- each column's streams lie in the file
 pub in_the_file : LayoutsEndBy → EndLater → (stripe : Stripe) (footer : StripeFooter) (len : ℕ) → stripe_end stripe ≤ len → FollowEachOther stripe.at (footer_at stripe) footer.streams
@@ -103,6 +103,7 @@ module _ {S C : Type 0} (did : S → List Act → S → Type 0) (count : S → �
     acts = [];
     by = nothing reader;
     walk = walk columns none;
+    stops = tt;
     cause = record { later = omega arith; failed = λ f. absurd f };
     content = tt;
     has = λ bytes has. has_none bytes columns none;
@@ -117,18 +118,23 @@ module _ {S C : Type 0} (did : S → List Act → S → Type 0) (count : S → �
       has_none bytes [] e = StripeHas.unread
       has_none bytes (c ∷ cs) e = absurd (omega (arith, e))
 
-  pub not_counted : {Y : Type 0} → ((reader : S) → did reader [] reader) → (reader : S) (eater eater' : C) → WalksStripe did count files ate file columns {Y = Y} number stripe reader reader eater eater' (Err stop.NoMemory)
-  not_counted nothing reader eater eater' = record {
+  pub not_counted : {Y : Type 0} → ((reader : S) → did reader [] reader) → (reader : S) (eater eater' : C) → length columns ≡ 0 → WalksStripe did count files ate file columns {Y = Y} number stripe reader reader eater eater' (Err stop.NoMemory)
+  not_counted nothing reader eater eater' none = record {
     pieces = [];
     eaten = tt;
     acts = [];
     by = nothing reader;
     walk = tt;
+    stops = stopped columns none;
     cause = record { later = omega arith; failed = λ f. absurd f };
     content = tt;
     has = λ bytes has. tt;
     fails = λ bytes has. tt;
   }
+    where
+      stopped : (cs : List ReadColumn) → length cs ≡ 0 → IsStripeStop files file number stripe cs [] stop.NoMemory []
+      stopped [] e = IsStripeStop.uncounted
+      stopped (c ∷ cs) e = absurd (omega (arith, e))
 
   -- ---- columns are read
 
@@ -143,6 +149,7 @@ module _ {S C : Type 0} (did : S → List Act → S → Type 0) (count : S → �
       acts = read_acts f.entries;
       by = did_read before between f.entries f.by;
       walk = tt;
+      stops = stopped columns some;
       cause = record {
         later = omega (arith, f.cause.later, one_count before, one_count between);
         failed = λ g. rw (sym (one_count before), sym (one_count between)) (f.cause.failed (footer_read Y number fault g));
@@ -152,6 +159,10 @@ module _ {S C : Type 0} (did : S → List Act → S → Type 0) (count : S → �
       fails = λ bytes has. fails bytes columns some (f.fits bytes has);
     }
       where
+        stopped : (cs : List ReadColumn) → 0 < length cs → IsStripeStop files file number stripe cs [] (stop_of_footer number fault) (read_acts f.entries)
+        stopped [] e = absurd (omega (arith, e))
+        stopped (c ∷ cs) e = IsStripeStop.at_footer fault f.entries f.own f.fits
+
         fails : (bytes : List ℕ) (cs : List ReadColumn) → 0 < length cs → Fits ending (stripe_footer_plan file stripe bytes) (Err fault) f.entries
             → IfFault {Y = Y} (Err (stop_of_footer number fault)) (StripeFails bytes number stripe cs)
         fails bytes [] e fits = absurd (omega (arith, e))
@@ -168,6 +179,7 @@ module _ {S C : Type 0} (did : S → List Act → S → Type 0) (count : S → �
       acts = read_acts f.entries ++ (w.acts ++ closes ∷ []);
       by = joins before between last (read_acts f.entries) (w.acts ++ closes ∷ []) (did_read before between f.entries f.by) (joins between after last w.acts (closes ∷ []) w.by closed);
       walk = walk answer columns some w.cut w.order;
+      stops = stopped answer columns some w.stops;
       cause = record { later = omega (arith, later, w.cause.later, still); failed = λ g. rose (w.cause.failed g) };
       content = w.content;
       has = λ bytes has. has_them answer bytes columns some (footer_found file stripe bytes footer f.entries (f.fits bytes has)) (w.has bytes has);
@@ -187,6 +199,12 @@ module _ {S C : Type 0} (did : S → List Act → S → Type 0) (count : S → �
         walk (Ok y) (c ∷ cs) e cut order = IsStripeWalk.by_footer footer f.entries w.acts f.own (λ bytes has. footer_found file stripe bytes footer f.entries (f.fits bytes has)) (w.batches, refl, cut)
             (subst (λ (bs : List Batch). ColumnActs file footer (c ∷ cs) bs w.acts) (sym (batches_of_pieces w.batches)) order)
         walk (Err why) cs e cut order = tt
+
+        stopped : (answer : Result Y (Stop RowsFault)) (cs : List ReadColumn) → 0 < length cs → IfErr answer (λ why. ColumnsStop file footer cs w.batches why w.acts)
+            → IfErr answer (λ why. IsStripeStop files file number stripe cs (pieces_of w.batches) why (read_acts f.entries ++ (w.acts ++ closes ∷ [])))
+        stopped (Ok y) cs e stop = tt
+        stopped (Err why) [] e stop = absurd (omega (arith, e))
+        stopped (Err why) (c ∷ cs) e stop = IsStripeStop.in_columns footer f.entries w.batches w.acts f.own (λ bytes has. footer_found file stripe bytes footer f.entries (f.fits bytes has)) stop
 
         has_them : (answer : Result Y (Stop RowsFault)) (bytes : List ℕ) (cs : List ReadColumn) → 0 < length cs → IsFooterRead file bytes stripe footer f.entries
             → IfOk answer (λ y. HaveValues bytes footer stripe.rows cs (joined (no_rows cs) w.batches)) → IfOk answer (λ y. StripeHas bytes stripe cs (values_in cs (pieces_of w.batches)))

@@ -16,7 +16,7 @@ use Rattle.orc_rows.specs.Rows.{Rows, HaveValues, StripeHas, StripeFails, HaveRo
 use Rattle.orc_walk.specs.declared.stop.Stop.{Stop}
 use Rattle.orc_walk.specs.declared.stop.Stop.TheVariants as stop
 use Rattle.orc_walk.specs.Stops.{EatenBy, StoppedByRead, IfFault, IsRowsContent}
-use Rattle.orc_walk.specs.StripeWalk.{IsStripeWalk, AreStripeWalks, WalksStripe, WalksStripes, StripesSoFar}
+use Rattle.orc_walk.specs.StripeWalk.{IsStripeWalk, AreStripeWalks, IsStripeStop, StripesStop, WalksStripe, WalksStripes, StripesSoFar}
 
 -- ---- rows behind rows
 
@@ -113,6 +113,17 @@ walks_more files file cs (x ∷ ss) s _ qs _ bs (AreStripeWalks.next {pieces = p
     (subst (λ (r : List Act). AreStripeWalks files file cs (x ∷ (ss ++ s ∷ [])) (p ++ (more ++ qs)) r) (sym (append_assoc a rest bs))
     (AreStripeWalks.next first (walks_more files file cs ss s more qs rest bs have walk)))
 
+-- one walk stopped behind others
+stops_behind : (files : Option Files) (file : FileRef) (cs : List ReadColumn) (number : ℕ) (ss : List Stripe) (s : Stripe) (others : List Stripe) (ps qs : List Piece) (xs bs : List Act) (why : Stop RowsFault)
+    → AreStripeWalks files file cs ss ps xs → IsStripeStop files file (number + length ss) s cs qs why bs → StripesStop files file cs number (ss ++ s ∷ others) (ps ++ qs) why (xs ++ bs)
+stops_behind files file cs number [] s others _ qs _ bs why AreStripeWalks.none stop =
+    StripesStop.here (subst (λ (n : ℕ). IsStripeStop files file n s cs qs why bs) (omega arith) stop)
+stops_behind files file cs number (x ∷ ss) s others _ qs _ bs why (AreStripeWalks.next {pieces = p} {more = more} {acts = a} {rest = rest} first have) stop =
+    subst (λ (r : List Piece). StripesStop files file cs number (x ∷ (ss ++ s ∷ others)) r why ((a ++ rest) ++ bs)) (sym (append_assoc p more qs))
+    (subst (λ (r : List Act). StripesStop files file cs number (x ∷ (ss ++ s ∷ others)) (p ++ (more ++ qs)) why r) (sym (append_assoc a rest bs))
+    (StripesStop.later first (stops_behind files file cs (number + 1) ss s others more qs rest bs why have
+    (subst (λ (n : ℕ). IsStripeStop files file n s cs qs why bs) (omega arith) stop))))
+
 moved : (file : List ℕ) (i j : ℕ) (s : Stripe) (cs : List ReadColumn) (fault : RowsFault) → i ≡ j → StripeFails file i s cs fault → StripeFails file j s cs fault
 moved file i j s cs fault e fails = subst (λ (n : ℕ). StripeFails file n s cs fault) e fails
 
@@ -150,6 +161,7 @@ module _ {S C : Type 0} (did : S → List Act → S → Type 0) (count : S → �
     acts = [];
     by = nothing reader;
     walk = tt;
+    stops = StripesStop.unbegun;
     cause = record { later = omega arith; failed = λ f. absurd f };
     content = tt;
     has = λ bytes has. tt;
@@ -188,6 +200,9 @@ module _ {S C : Type 0} (did : S → List Act → S → Type 0) (count : S → �
       acts = so.acts ++ w.acts;
       by = joins before between after so.acts w.acts so.by w.by;
       walk = tt;
+      stops = subst (λ (ss : List Stripe). StripesStop files file columns 0 ss (so.pieces ++ w.pieces) why (so.acts ++ w.acts)) (parted stripes i d lt)
+          (stops_behind files file columns 0 (take i stripes) (get_or stripes i d) (drop (i + 1) stripes) so.pieces w.pieces so.acts w.acts why so.walk
+          (subst (λ (n : ℕ). IsStripeStop files file n (get_or stripes i d) columns w.pieces why w.acts) (sym (before_it stripes i lt)) w.stops));
       cause = cause why w.cause;
       content = content why w.content;
       has = λ bytes has. tt;
@@ -231,6 +246,7 @@ module _ {S C : Type 0} (did : S → List Act → S → Type 0) (count : S → �
     acts = so.acts;
     by = so.by;
     walk = subst (λ (ss : List Stripe). AreStripeWalks files file columns ss so.pieces so.acts) (take_all i stripes all) so.walk;
+    stops = tt;
     cause = record { later = so.later; failed = λ f. absurd f };
     content = tt;
     has = λ bytes has. subst (λ (ss : List Stripe). (rows : ℕ) × HaveRows bytes columns ss (record { count = rows; columns = values_in columns so.pieces })) (take_all i stripes all) (so.has bytes has);

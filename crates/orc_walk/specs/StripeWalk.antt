@@ -1,24 +1,33 @@
 -- The walk over stripes: its acts, and what it gives. Source: this project's own.
-use Rattle.std.specs.Prelude.{◌≡◌, ◌≤◌, ℕ, List, [], ◌∷◌, ◌++◌, Option, Result, Ok, IfOk}
+use Rattle.std.specs.Prelude.{◌≡◌, ◌≤◌, ℕ, ◌+◌, ◌⊎◌, List, [], ◌∷◌, ◌++◌, Option, Result, Ok, Err, IfOk, IfErr}
+use Rattle.outside.specs.declared.failed.Failed.{Failed}
 use Rattle.outside.specs.declared.file_ref.FileRef.{FileRef}
 use Rattle.outside.specs.Cause.{Cause}
 use Rattle.outside.specs.Files.{Files, HasBytes, range_of}
-use Rattle.outside.specs.Followed.{OfFile, all_read}
+use Rattle.outside.specs.Followed.{OfFile, Fits, all_read}
 use Rattle.outside.specs.Reads.{ReadEntry}
 use Rattle.orc_columns.specs.declared.fault.ColumnFault.{ColumnFault}
+use Rattle.orc_columns.specs.declared.fault.ColumnFault.TheVariants as column_fault
+use Rattle.orc_tail.specs.declared.fault.TailFault.{TailFault}
 use Rattle.orc_tail.specs.declared.stripe.Stripe.{Stripe}
 use Rattle.orc_tail.specs.declared.stripe_footer.StripeFooter.{StripeFooter}
+use Rattle.orc_tail.specs.Reads.{ending, stripe_footer_plan}
 use Rattle.orc_tail.specs.StripeFooter.{stripe_footer, footer_at}
+use Rattle.orc_streams.specs.declared.layout.ColumnLayout.{ColumnLayout}
+use Rattle.orc_streams.specs.declared.stream_reader.OpenFault.TheVariants as open_fault
 use Rattle.orc_streams.specs.declared.layout.ReadColumn.{ReadColumn}
 use Rattle.orc_streams.specs.Acts.{Act, closes, read_acts}
 use Rattle.orc_batches.specs.Batch.{Batch, Piece, pieces_of, joined, AreCut}
 use Rattle.orc_rows.specs.declared.fault.RowsFault.{RowsFault}
 use Rattle.orc_rows.specs.declared.fault.RowsFault.TheVariants.{BrokenColumn}
 use Rattle.orc_walk.specs.declared.stop.Stop.{Stop}
+use Rattle.orc_walk.specs.declared.stop.Stop.TheVariants as stop
 use Rattle.orc_rows.specs.Given.{kinds_in, no_rows, batches_in, values_in, AreStripePieces}
 use Rattle.orc_rows.specs.Rows.{HaveValues, FirstColumnFails, StripeHas, StripeFails, HaveRows, FirstFails}
-use Rattle.orc_rows.specs.Giving.{ColumnActs}
-use Rattle.orc_walk.specs.Stops.{EatenBy, StoppedByRead, IfFault, IsRowsContent, IsReadStop, IfFaulty}
+use Rattle.orc_rows.specs.Giving.{ColumnActs, ColumnsEnd}
+use Rattle.orc_rows.specs.Judging.{IsContent, JudgeActs, JudgeEnds, EachJudgeActs, JudgedUpTo}
+use Rattle.orc_rows.specs.Starting.{layouts_in}
+use Rattle.orc_walk.specs.Stops.{stop_of_footer, EatenBy, StoppedByRead, IfFault, IsRowsContent, IsReadStop, IfFaulty}
 
 -- ---- the columns of a stripe
 
@@ -28,6 +37,26 @@ ColumnsFail bytes footer columns rows number broken =
     (which : ℕ) × (fault : ColumnFault) × (broken ≡ BrokenColumn number which fault)
     × FirstColumnFails bytes footer rows columns which fault
 
+-- The columns were judged in their order: up to the first that is refused, or all, where the file changed meanwhile; or up to the one
+-- at which a read failed or memory was refused.
+abbrev pub JudgedUntil : FileRef → List ColumnLayout → Stop RowsFault → List Act → Type 0
+JudgedUntil file layouts (stop.Fault broken) acts =
+    JudgedUpTo file (λ i l. JudgeActs file i l) 0 layouts acts ⊎ EachJudgeActs file 0 layouts acts
+JudgedUntil file layouts (stop.Read failed) acts = JudgedUpTo file (λ i l. JudgeEnds file i l (open_fault.Read failed)) 0 layouts acts
+JudgedUntil file layouts stop.NoMemory acts = JudgedUpTo file (λ i l. JudgeEnds file i l open_fault.NoMemory) 0 layouts acts
+
+-- The columns of a stripe were given up to a failed read or want of memory; or up to a fault of the content, and then they were judged.
+pub data ColumnsStop (file : FileRef) (footer : StripeFooter) (columns : List ReadColumn) : List Batch → Stop RowsFault → List Act
+    → Type 0 where
+  read_failed : {batches : List Batch} {acts : List Act} (failed : Failed)
+      → ColumnsEnd file footer columns batches (column_fault.Read failed) acts
+      → ColumnsStop file footer columns batches (stop.Read failed) acts
+  refused : {batches : List Batch} {acts : List Act} → ColumnsEnd file footer columns batches column_fault.NoMemory acts
+      → ColumnsStop file footer columns batches stop.NoMemory acts
+  judged : {batches : List Batch} {why : Stop RowsFault} {front : List Act} (back : List Act) (fault : ColumnFault) → IsContent fault
+      → ColumnsEnd file footer columns batches fault front → JudgedUntil file (layouts_in footer columns) why back
+      → ColumnsStop file footer columns batches why (front ++ back)
+
 -- The first of the columns that fails was looked for: by some acts, a failed read has its cause, a fault is the content's own, and
 -- where the file is told it is that of the stripe.
 pub record Blames {S : Type 0} (did : S → List Act → S → Type 0) (count : S → ℕ) (files : Option Files) (file : FileRef)
@@ -35,6 +64,7 @@ pub record Blames {S : Type 0} (did : S → List Act → S → Type 0) (count : 
     (columns : List ReadColumn) (rows number : ℕ) (before after : S) (why : Stop RowsFault) : Type 0 where
   pub acts : List Act
   pub by : did before acts after
+  pub order : JudgedUntil file (layouts_in footer columns) why acts
   pub cause : Cause (count before) (count after) (IsReadStop why)
   pub content : IfFaulty why IsRowsContent
   pub fails : (bytes : List ℕ) → HasBytes files file bytes → IfFaulty why (ColumnsFail bytes footer columns rows number)
@@ -51,6 +81,7 @@ module _ {S C : Type 0} (did : S → List Act → S → Type 0) (count : S → �
     pub acts : List Act
     pub by : did before acts after
     pub order : IfOk answer (λ y. ColumnActs file footer columns batches acts)
+    pub stops : IfErr answer (λ why. ColumnsStop file footer columns batches why acts)
     pub cause : Cause (count before) (count after) (StoppedByRead answer)
     pub content : IfFault answer IsRowsContent
     pub has : (bytes : List ℕ) → HasBytes files file bytes
@@ -75,6 +106,21 @@ pub data IsStripeWalk (files : Option Files) (file : FileRef) (stripe : Stripe) 
       → IsStripeWalk files file stripe (column ∷ columns) pieces
       (read_acts entries ++ (acts ++ closes ∷ []))
 
+-- A stripe's walk stopped, by these acts: where no column is read, want of memory came before any; else the footer wasn't read, or was
+-- refused, by its one read where the file is told; or it was read, the columns were given up to their stop, and all streams were closed.
+pub data IsStripeStop (files : Option Files) (file : FileRef) (number : ℕ) (stripe : Stripe) : List ReadColumn → List Piece
+    → Stop RowsFault → List Act → Type 0 where
+  uncounted : IsStripeStop files file number stripe [] [] stop.NoMemory []
+  at_footer : {column : ReadColumn} {columns : List ReadColumn} (fault : TailFault) (entries : List ReadEntry) → OfFile file entries
+      → ((bytes : List ℕ) → HasBytes files file bytes → Fits ending (stripe_footer_plan file stripe bytes) (Err fault) entries)
+      → IsStripeStop files file number stripe (column ∷ columns) [] (stop_of_footer number fault) (read_acts entries)
+  in_columns : {column : ReadColumn} {columns : List ReadColumn} {why : Stop RowsFault} (footer : StripeFooter) (entries : List ReadEntry)
+      (batches : List Batch) (acts : List Act)
+      → OfFile file entries → ((bytes : List ℕ) → HasBytes files file bytes → IsFooterRead file bytes stripe footer entries)
+      → ColumnsStop file footer (column ∷ columns) batches why acts
+      → IsStripeStop files file number stripe (column ∷ columns) (pieces_of batches) why
+      (read_acts entries ++ (acts ++ closes ∷ []))
+
 -- stripes, one after the other
 pub data AreStripeWalks (files : Option Files) (file : FileRef) (columns : List ReadColumn) : List Stripe → List Piece → List Act
     → Type 0 where
@@ -83,6 +129,19 @@ pub data AreStripeWalks (files : Option Files) (file : FileRef) (columns : List 
       → IsStripeWalk files file stripe columns pieces acts
       → AreStripeWalks files file columns stripes more rest
       → AreStripeWalks files file columns (stripe ∷ stripes) (pieces ++ more) (acts ++ rest)
+
+-- The walk over stripes, of which the first has that number, stopped: before the first, for want of memory; or within one, behind
+-- the whole walks of those before.
+pub data StripesStop (files : Option Files) (file : FileRef) (columns : List ReadColumn) : ℕ → List Stripe → List Piece → Stop RowsFault
+    → List Act → Type 0 where
+  unbegun : {number : ℕ} {stripes : List Stripe} → StripesStop files file columns number stripes [] stop.NoMemory []
+  here : {number : ℕ} {stripe : Stripe} {stripes : List Stripe} {pieces : List Piece} {why : Stop RowsFault} {acts : List Act}
+      → IsStripeStop files file number stripe columns pieces why acts
+      → StripesStop files file columns number (stripe ∷ stripes) pieces why acts
+  later : {number : ℕ} {stripe : Stripe} {stripes : List Stripe} {pieces more : List Piece} {why : Stop RowsFault} {acts rest : List Act}
+      → IsStripeWalk files file stripe columns pieces acts
+      → StripesStop files file columns (number + 1) stripes more why rest
+      → StripesStop files file columns number (stripe ∷ stripes) (pieces ++ more) why (acts ++ rest)
 
 module _ {S C : Type 0} (did : S → List Act → S → Type 0) (count : S → ℕ) (files : Option Files) (ate : C → List Piece → C → Type 0)
     (file : FileRef) (columns : List ReadColumn) where
@@ -95,6 +154,7 @@ module _ {S C : Type 0} (did : S → List Act → S → Type 0) (count : S → �
     pub acts : List Act
     pub by : did before acts after
     pub walk : IfOk answer (λ y. IsStripeWalk files file stripe columns pieces acts)
+    pub stops : IfErr answer (λ why. IsStripeStop files file number stripe columns pieces why acts)
     pub cause : Cause (count before) (count after) (StoppedByRead answer)
     pub content : IfFault answer IsRowsContent
     pub has : (bytes : List ℕ) → HasBytes files file bytes → IfOk answer (λ y. StripeHas bytes stripe columns (values_in columns pieces))
@@ -119,6 +179,7 @@ module _ {S C : Type 0} (did : S → List Act → S → Type 0) (count : S → �
     pub acts : List Act
     pub by : did before acts after
     pub walk : IfOk answer (λ y. AreStripeWalks files file columns stripes pieces acts)
+    pub stops : IfErr answer (λ why. StripesStop files file columns 0 stripes pieces why acts)
     pub cause : Cause (count before) (count after) (StoppedByRead answer)
     pub content : IfFault answer IsRowsContent
     pub has : (bytes : List ℕ) → HasBytes files file bytes

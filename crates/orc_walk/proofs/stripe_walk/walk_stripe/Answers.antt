@@ -4,8 +4,9 @@ use Rattle.orc_walk.proofs.stripe_walk.walk_stripe.Goals as goal
 
 pub returns-in_default-clause-walks : goal.returns-in_default-clause-walks
 returns-in_default-clause-walks g c =
+    let none : length c.args.columns.now ≡ 0 = search rules in
     not_counted g.S.StreamReader.did g.S.Feed.fault_count g.W.World.files g.C.Consumer.ate c.args.file c.args.columns.now c.args.number c.args.stripe.now
-    g.met.S.StreamReader.did_nothing c.args.reader.now c.args.consumer.now c.count.new.self
+    g.met.S.StreamReader.did_nothing c.args.reader.now c.args.consumer.now c.count.new.self none
 
 pub returns-then-is_empty-clause-walks : goal.returns-then-is_empty-clause-walks
 returns-then-is_empty-clause-walks g c =
