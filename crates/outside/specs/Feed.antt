@@ -1,5 +1,5 @@
 -- A feed: numbered streams of bytes, each taken from its front.
-use Rattle.std.specs.Prelude.{◌≡◌, ◌==◌, ℕ, ◌+◌, ◌<◌, ◌≤◌, Bool, true, false, List, [], ◌∷◌, ◌++◌, length, drop, Option, Some, None, Result, Ok, Err, if◌then◌else◌, IfSome}
+use Rattle.std.specs.Prelude.{◌≡◌, ◌==◌, ℕ, ◌+◌, ◌<◌, ◌≤◌, Bool, true, false, List, [], ◌∷◌, ◌++◌, length, take, drop, Option, Some, None, Result, Ok, Err, if◌then◌else◌, IfSome}
 use Rattle.std.specs.List.{AllByRecursion}
 use Rattle.outside.specs.declared.failed.Failed.{Failed}
 
@@ -42,3 +42,7 @@ Lost count (Some whole) (Some rest) = (count ≤ length whole) × (rest ≡ drop
 -- No byte for a room of at least one comes only at the end of the stream.
 abbrev pub Ends : Option (List ℕ) → ℕ → ℕ → Type 0
 Ends before room len = IfSome before (λ whole. 0 < room → len ≡ 0 → whole ≡ [])
+
+-- these bytes are the first of those
+abbrev pub IsFront : List ℕ → List ℕ → Type 0
+IsFront front whole = front ≡ take (length front) whole

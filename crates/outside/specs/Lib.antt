@@ -9,6 +9,8 @@ pub mod FillingLaws
 pub mod Folder
 pub mod Followed
 pub mod FollowedLaws
+pub mod Lending
+pub mod LendingLaws
 pub mod Log
 pub mod Memory
 pub mod Pieces

@@ -1,5 +1,6 @@
 //! A number of bytes that is known, taken whole.
 ghost use Rattle.std.specs.Prelude.{length};
+ghost use Rattle.outside.specs.Lending.{skipped};
 ghost use Rattle.outside.specs.Reading.{Reads, byte, exactly, placed};
 
 use crate::{Feed, RunFault};
@@ -29,4 +30,21 @@ pub fn take_byte<F: Feed>(feed: &mut F, stream: u32) -> Result<u8, RunFault>
     let mut into = [0; 1];
     take_exactly(feed, stream, &mut into)?;
     Ok(into[0])
+}
+
+/// Passes over just so many bytes, in one skip where the feed has them at hand.
+///
+/// Answers `StreamEnds` where the stream has fewer, and `Read` only where the feed failed in this call. After
+/// either, some of the bytes may have been taken.
+pub fn skip_exactly<F: Feed>(feed: &mut F, stream: u32, count: usize) -> Result<(), RunFault>
+    ensures { Reads F.rest F.fed F.fault_count stream (skipped count) feed.old feed.new (placed tt result) }
+{
+    if count == 0 {
+        return Ok(());
+    }
+    let len = feed.skip(stream, count)?;
+    if len == 0 {
+        return Err(RunFault::StreamEnds);
+    }
+    skip_exactly(feed, stream, count - len)
 }

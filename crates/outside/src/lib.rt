@@ -33,7 +33,7 @@ mod world;
 mod writing;
 
 pub use bytes::Bytes;
-pub use exact::{take_byte, take_exactly};
+pub use exact::{skip_exactly, take_byte, take_exactly};
 pub use failed::{Failed, NoMemory};
 pub use feed::Feed;
 pub use file_ref::{FileRange, FileRef};

@@ -44,6 +44,25 @@ impl<'a> Feed for SliceFeed<'a> {
         Ok(len)
     }
 
+    fn lent(&self, stream: u32) -> &[u8] {
+        let stream = stream as usize;
+        if stream >= self.rests.len() {
+            return &[];
+        }
+        self.rests[stream]
+    }
+
+    fn skip(&mut self, stream: u32, count: usize) -> Result<usize, Failed> {
+        let stream = stream as usize;
+        if stream >= self.rests.len() {
+            return Ok(0);
+        }
+        let left = self.rests[stream];
+        let skipped = left.len().min(count);
+        self.rests[stream] = &left[skipped..];
+        Ok(skipped)
+    }
+
     ghost fed_nothing = { Fed-nothing };
 
     ghost fed_joined = { Fed-joined };

@@ -51,7 +51,8 @@ fn take_open<F: Feed>(
     begun: Begun,
     out: &mut [u64],
 ) -> Result<(), RunFault>
-    ensures { Reads F.rest F.fed F.fault_count stream (open_varints begun.groups begun.count (length out.old)) feed.old feed.new (placed out.new result) }
+    ensures { Reads F.rest F.fed F.fault_count stream (open_varints begun.groups begun.count (length out.old)) feed.old feed.new
+        (placed out.new result) }
 {
     if out.is_empty() {
         return Ok(());
