@@ -1,6 +1,6 @@
 //! Laws of the formats, as contracts of functions that do nothing.
 ghost use Rattle.std.specs.Prelude.{Bool};
-ghost use Rattle.outside.specs.Runs.{BeginsNoOther, IsDecided};
+ghost use Rattle.outside.specs.Runs.{BeginsNoOther, IsDecided, IsReaderOf};
 ghost use Rattle.orc_rle.specs.BitRun.{BitRun, bit_run, BitsAreSpelled, BitsBreak};
 ghost use Rattle.orc_rle.specs.ByteRun.{ByteRun, byte_run, OnlyEnds};
 ghost use Rattle.orc_rle.specs.IntRun1.{IntRun1, int_run1};
@@ -17,6 +17,12 @@ pub fn every_stream_is_decided()
     ensures integers { (signed : Bool) → IsDecided (IntRun1 signed) (int_run1 signed) }
     ensures bytes { IsDecided ByteRun byte_run }
     ensures bits { IsDecided BitRun bit_run }
+{}
+
+/// What is read of a stream's front is a run, and a run at a stream's front is what is read of it.
+pub fn runs_are_read()
+    ensures integers { (signed : Bool) → IsReaderOf (IntRun1 signed) (int_run1 signed) }
+    ensures bits { IsReaderOf BitRun bit_run }
 {}
 
 /// n bits are the first bits of n / 8 bytes, rounded up: they use the runs of these bytes, no others, and

@@ -1,6 +1,6 @@
 //! Laws of the format, as contracts of functions that do nothing.
 ghost use Rattle.std.specs.Prelude.{Bool};
-ghost use Rattle.outside.specs.Runs.{BeginsNoOther, IsDecided};
+ghost use Rattle.outside.specs.Runs.{BeginsNoOther, IsDecided, IsReaderOf};
 ghost use Rattle.orc_rle2.specs.IntRun2.{IntRun2, int_run2};
 
 /// No spelling of a run begins the spelling of another run.
@@ -12,4 +12,9 @@ pub fn runs_begin_no_other()
 /// whole, and never both: so `fill` answers Ok exactly where the stream spells the values.
 pub fn every_stream_is_decided()
     ensures { (signed : Bool) → IsDecided (IntRun2 signed) (int_run2 signed) }
+{}
+
+/// What is read of a stream's front is a run, and a run at a stream's front is what is read of it.
+pub fn runs_are_read()
+    ensures { (signed : Bool) → IsReaderOf (IntRun2 signed) (int_run2 signed) }
 {}

@@ -1,0 +1,6 @@
+use Rattle.orc_rle.proofs.BitRuns.{bit_run_reads}
+use Rattle.orc_rle.proofs.RunReader.{int_run1_reads}
+use Rattle.orc_rle.proofs.laws.runs_are_read.Goals as goal
+
+pub returns : goal.returns
+returns c = record { integers = int_run1_reads; bits = bit_run_reads }
