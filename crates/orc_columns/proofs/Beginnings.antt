@@ -1,7 +1,7 @@
 -- A reader before the first row.
 use Rattle.std.proofs.Common.{◌≡◌, ℕ, true, false, List, [], ◌∷◌, length, map, pos, Option, Some, None, refl, sym, ◌∙◌, subst, arith}
 use Rattle.outside.specs.Runs.{Between, Spells}
-use Rattle.outside.proofs.Runs.{Between-start}
+use Rattle.outside.specs.RunLaws.{Between-start}
 use Rattle.orc_rle.specs.BitRun.{BitRun}
 use Rattle.orc_columns.specs.declared.fault.ColumnFault.{ColumnFault}
 use Rattle.orc_columns.specs.declared.plan.ColumnPlan.{ColumnPlan}

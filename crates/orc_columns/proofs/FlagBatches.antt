@@ -7,7 +7,7 @@ use Rattle.outside.specs.declared.run_fault.RunFault.TheVariants.{StreamEnds, Lo
 use Rattle.outside.specs.Feed.{Taken}
 use Rattle.outside.specs.Filling.{Fills, BreaksWith, Continues}
 use Rattle.outside.specs.Runs.{Between}
-use Rattle.outside.proofs.Runs.{Between-start}
+use Rattle.outside.specs.RunLaws.{Between-start}
 use Rattle.orc_rle.specs.BitRun.{BitRun, bit_run}
 use Rattle.orc_rle.specs.Decoder.{Decoder}
 use Rattle.orc_rle.specs.EmptyStream.{FillsUnlessEmpty, AnswersEmpty}

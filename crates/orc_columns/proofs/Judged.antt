@@ -7,7 +7,7 @@ use Rattle.outside.specs.declared.run_fault.RunFault.{RunFault}
 use Rattle.outside.specs.Feed.{Taken, Lost, taken_of}
 use Rattle.outside.specs.Reading.{Reader}
 use Rattle.outside.specs.Runs.{Spells, Breaks}
-use Rattle.outside.proofs.Runs.{Between-start}
+use Rattle.outside.specs.RunLaws.{Between-start}
 use Rattle.orc_rle.specs.BitRun.{BitRun, bit_run}
 use Rattle.orc_values.specs.declared.value.Value.TheVariants as value
 use Rattle.orc_values.specs.Texts.{slices}

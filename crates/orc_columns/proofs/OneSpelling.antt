@@ -4,7 +4,7 @@ use Rattle.std.specs.Prelude.{Result}
 use Rattle.outside.specs.declared.run_fault.RunFault.{RunFault}
 use Rattle.outside.specs.Reading.{Reader}
 use Rattle.outside.specs.Runs.{Joined, none, one, Spells, Breaks, IsReaderOf}
-use Rattle.outside.proofs.Runs.{Fewest-joined}
+use Rattle.outside.specs.RunLaws.{Fewest-joined}
 
 -- one of two lists is a front of the other
 abbrev AreFronts : {V : Type 0} → List V → List V → Type 0

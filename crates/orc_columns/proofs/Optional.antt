@@ -4,7 +4,7 @@ use Rattle.outside.specs.declared.run_fault.RunFault.TheVariants.{StreamEnds}
 use Rattle.outside.specs.Feed.{Taken}
 use Rattle.outside.specs.Reading.{Reader}
 use Rattle.outside.specs.Runs.{Between}
-use Rattle.outside.proofs.Runs.{Between-breaks}
+use Rattle.outside.specs.RunLaws.{Between-breaks}
 use Rattle.orc_columns.specs.Optional.{FillsIn}
 
 module _ {F V : Type 0} (rest : F → ℕ → Option (List ℕ)) (fed : F → List Taken → F → Type 0) (count : F → ℕ) (Run : List ℕ → List V → Type 0) (read : Reader (List V)) where

@@ -5,7 +5,7 @@ use Rattle.std.specs.Result.{result_err}
 use Rattle.std.proofs.lemmas.List.{map-append, length-map}
 use Rattle.outside.specs.Reading.{placed}
 use Rattle.outside.specs.Feed.{Taken, Lost, taken_of}
-use Rattle.outside.proofs.Runs.{Between-start}
+use Rattle.outside.specs.RunLaws.{Between-start}
 use Rattle.orc_rle.specs.BitRun.{BitRun}
 use Rattle.orc_values.specs.declared.column_values.ColumnValues.{ColumnValues}
 use Rattle.orc_values.specs.declared.value.Value.{Value}

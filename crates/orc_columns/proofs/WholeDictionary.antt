@@ -6,7 +6,7 @@ use Rattle.outside.specs.declared.run_fault.RunFault.{RunFault}
 use Rattle.outside.specs.Feed.{Taken, Lost, taken_of}
 use Rattle.outside.specs.Reading.{Reader, placed}
 use Rattle.outside.specs.Runs.{Between, Breaks, Spells}
-use Rattle.outside.proofs.Runs.{Between-start}
+use Rattle.outside.specs.RunLaws.{Between-start}
 use Rattle.orc_values.specs.Texts.{slices, texts_from, running_ends, AreEnds}
 use Rattle.orc_values.specs.TextsLaws.{slices-ends, slices-front, AreEnds-running_ends}
 use Rattle.orc_columns.specs.declared.fault.ColumnFault.{ColumnFault}

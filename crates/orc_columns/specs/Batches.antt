@@ -1,5 +1,6 @@
 -- A batch of a column: what filling it makes of the values that were given before. Source: this project's own.
-use Rattle.std.specs.Prelude.{◌≡◌, ℕ, ◌+◌, ◌<◌, ◌≤◌, Bool, true, false, List, [], ◌++◌, length, map, drop, sum, pos, unsigned_abs, All, Contains, None, IsTrue, ℤ}
+use Rattle.std.specs.Prelude.{◌≡◌, ℕ, ◌+◌, ◌<◌, ◌≤◌, Bool, true, false, List, [], ◌++◌, length, map, drop, sum, pos}
+use Rattle.std.specs.Prelude.{unsigned_abs, All, Contains, None, IsTrue, ℤ}
 use Rattle.std.specs.Int.{IsNonNegative}
 use Rattle.outside.specs.Runs.{Between, Spells}
 use Rattle.outside.specs.declared.run_fault.RunFault.TheVariants as run
@@ -12,7 +13,8 @@ use Rattle.orc_values.specs.Column.{column_of}
 use Rattle.orc_values.specs.Texts.{slices}
 use Rattle.orc_values.specs.Woven.{present_count}
 use Rattle.orc_columns.specs.declared.fault.ColumnFault.{ColumnFault}
-use Rattle.orc_columns.specs.declared.fault.ColumnFault.TheVariants.{BadEncoding, Run, NegativeLength, LengthsPastData, IndexOutOfDictionary, Read, NoMemory}
+use Rattle.orc_columns.specs.declared.fault.ColumnFault.TheVariants.{BadEncoding, Run, NegativeLength, LengthsPastData}
+use Rattle.orc_columns.specs.declared.fault.ColumnFault.TheVariants.{IndexOutOfDictionary, Read, NoMemory}
 use Rattle.orc_columns.specs.declared.fault.StreamName.TheVariants as name
 use Rattle.orc_columns.specs.declared.plan.ColumnPlan.{ColumnPlan}
 use Rattle.orc_columns.specs.declared.spelling.Spelling.{Spelling}

@@ -4,7 +4,8 @@
 -- null, that bytes behind the last run that is needed are ignored, and the conditions and their order are this project's
 -- own: 1 the encoding, 2 PRESENT, 3 LENGTH, 4 a negative length, 5 lengths past the data, 6 DATA, 7 the number of an entry.
 -- Each is judged over all rows before the next.
-use Rattle.std.specs.Prelude.{◌≡◌, ℕ, ◌<◌, ◌≤◌, Bool, true, false, List, [], ◌∷◌, length, map, replicate, sum, Option, Some, None, ℤ, pos, negsuc, All, Contains, slice_index_or}
+use Rattle.std.specs.Prelude.{◌≡◌, ℕ, ◌<◌, ◌≤◌, Bool, true, false, List, [], ◌∷◌, length, map, replicate, sum, Option}
+use Rattle.std.specs.Prelude.{Some, None, ℤ, pos, negsuc, All, Contains, slice_index_or}
 use Rattle.std.specs.Int.{w64, cast_unsigned}
 use Rattle.outside.specs.declared.run_fault.RunFault.{RunFault}
 use Rattle.outside.specs.Runs.{Spells, Breaks}
@@ -15,7 +16,8 @@ use Rattle.orc_values.specs.Column.{value_by}
 use Rattle.orc_values.specs.Texts.{slices}
 use Rattle.orc_values.specs.Woven.{present_count, woven}
 use Rattle.orc_columns.specs.declared.fault.ColumnFault.{ColumnFault}
-use Rattle.orc_columns.specs.declared.fault.ColumnFault.TheVariants.{BadEncoding, Run, NegativeLength, LengthsPastData, IndexOutOfDictionary}
+use Rattle.orc_columns.specs.declared.fault.ColumnFault.TheVariants.{BadEncoding, Run, NegativeLength, LengthsPastData}
+use Rattle.orc_columns.specs.declared.fault.ColumnFault.TheVariants.{IndexOutOfDictionary}
 use Rattle.orc_columns.specs.declared.fault.StreamName.TheVariants as name
 use Rattle.orc_columns.specs.declared.plan.ColumnPlan.{ColumnPlan}
 use Rattle.orc_columns.specs.declared.spelling.Spelling.{Spelling}

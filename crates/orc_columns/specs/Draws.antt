@@ -8,7 +8,8 @@ use Rattle.outside.specs.Feed.{Taken}
 use Rattle.outside.specs.Reading.{Reader}
 use Rattle.outside.specs.Runs.{Between, Breaks}
 use Rattle.orc_columns.specs.declared.fault.ColumnFault.{ColumnFault}
-use Rattle.orc_columns.specs.declared.fault.ColumnFault.TheVariants.{BadEncoding, Run, NegativeLength, LengthsPastData, IndexOutOfDictionary, Read, NoMemory}
+use Rattle.orc_columns.specs.declared.fault.ColumnFault.TheVariants.{BadEncoding, Run, NegativeLength, LengthsPastData}
+use Rattle.orc_columns.specs.declared.fault.ColumnFault.TheVariants.{IndexOutOfDictionary, Read, NoMemory}
 use Rattle.orc_columns.specs.declared.fault.StreamName.{StreamName}
 use Rattle.orc_columns.specs.declared.plan.ColumnPlan.{ColumnPlan}
 use Rattle.orc_columns.specs.Column.{Streams}
@@ -76,7 +77,8 @@ module _ {F Y : Type 0} (rest : F → ℕ → Option (List ℕ)) (fed : F → Li
 
   -- Whatever it answered, a call took from these of the plan's streams in turn, and from no other; a failed read has its
   -- cause; and where the streams were told, an Ok says this of the bytes before and after, and a fault that of those before.
-  pub record Draws (streams : List (Option ℕ)) (first last : F) (Goes : Streams → Streams → Y → Type 0) (Faults : Streams → ColumnFault → Type 0) (answer : Result Y ColumnFault) : Type 0 where
+  pub record Draws (streams : List (Option ℕ)) (first last : F) (Goes : Streams → Streams → Y → Type 0)
+      (Faults : Streams → ColumnFault → Type 0) (answer : Result Y ColumnFault) : Type 0 where
     pub takes : List Taken
     pub led : fed first takes last
     pub own : AllOfPlan plan takes

@@ -6,7 +6,8 @@ use Rattle.outside.specs.Feed.{Taken}
 use Rattle.orc_values.specs.declared.value.Value.{Value}
 use Rattle.orc_values.specs.Woven.{present_count}
 use Rattle.orc_columns.specs.declared.fault.ColumnFault.{ColumnFault}
-use Rattle.orc_columns.specs.declared.fault.ColumnFault.TheVariants.{BadEncoding, Run, NegativeLength, LengthsPastData, IndexOutOfDictionary, Read, NoMemory}
+use Rattle.orc_columns.specs.declared.fault.ColumnFault.TheVariants.{BadEncoding, Run, NegativeLength, LengthsPastData}
+use Rattle.orc_columns.specs.declared.fault.ColumnFault.TheVariants.{IndexOutOfDictionary, Read, NoMemory}
 use Rattle.orc_columns.specs.declared.fault.StreamName.TheVariants as name
 use Rattle.orc_columns.specs.declared.plan.ColumnPlan.{ColumnPlan}
 use Rattle.orc_columns.specs.declared.spelling.Spelling.{Spelling}
@@ -44,7 +45,8 @@ found_by IndexOutOfDictionary = Ok (Some IndexOutOfDictionary)
 -- A column was judged, told or not: takes are of its plan's streams alone, in turn, each over all rows before the next; an
 -- error is that the feed failed, by its cause, and never want of memory; no run's fault that is found is the feed's; and where
 -- the streams were told, the answer is what is found of them.
-pub record Judges {F : Type 0} (rest : F → ℕ → Option (List ℕ)) (fed : F → List Taken → F → Type 0) (count : F → ℕ) (plan : ColumnPlan) (rows : ℕ) (first last : F) (answer : Result (Option ColumnFault) ColumnFault) : Type 0 where
+pub record Judges {F : Type 0} (rest : F → ℕ → Option (List ℕ)) (fed : F → List Taken → F → Type 0) (count : F → ℕ)
+    (plan : ColumnPlan) (rows : ℕ) (first last : F) (answer : Result (Option ColumnFault) ColumnFault) : Type 0 where
   pub takes : List Taken
   pub led : fed first takes last
   pub own : AllOfPlan plan takes

@@ -19,7 +19,9 @@ abbrev pub summary_of : List ℤ → Summary
 summary_of numbers = record { total = total_from 0 numbers; bound = bound_from 0 numbers }
 
 -- So many integers of a stream were read as `FillsIn` says of one batch, and this is their summary.
-pub record ReadsNumbers {F : Type 0} (rest : F → ℕ → Option (List ℕ)) (fed : F → List Taken → F → Type 0) (count : F → ℕ) (Form : List ℕ → List ℤ → Type 0) (read : Reader (List ℤ)) (stream : Option ℕ) (first last : F) (before held : List ℤ) (asked : ℕ) (answer : Result Summary RunFault) : Type 0 where
+pub record ReadsNumbers {F : Type 0} (rest : F → ℕ → Option (List ℕ)) (fed : F → List Taken → F → Type 0)
+    (count : F → ℕ) (Form : List ℕ → List ℤ → Type 0) (read : Reader (List ℤ)) (stream : Option ℕ) (first last : F)
+    (before held : List ℤ) (asked : ℕ) (answer : Result Summary RunFault) : Type 0 where
   pub numbers : List ℤ
   pub fills : FillsIn rest fed count Form read stream first last before held asked (placed numbers answer)
   pub summary : IfOk answer (λ s. (length numbers ≡ asked) × (s ≡ summary_of numbers) × All (FitsSigned w64) numbers)

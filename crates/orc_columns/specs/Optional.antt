@@ -17,7 +17,9 @@ AllIn None takes = takes ≡ []
 AllIn (Some stream) takes = AllOf stream takes
 
 -- What `Fills` says of a decoder, of a stream that may be lacking.
-pub record FillsIn {F V : Type 0} (rest : F → ℕ → Option (List ℕ)) (fed : F → List Taken → F → Type 0) (count : F → ℕ) (Run : List ℕ → List V → Type 0) (read : Reader (List V)) (stream : Option ℕ) (first last : F) (before held : List V) (asked : ℕ) (answer : Result (List V) RunFault) : Type 0 where
+pub record FillsIn {F V : Type 0} (rest : F → ℕ → Option (List ℕ)) (fed : F → List Taken → F → Type 0) (count : F → ℕ)
+    (Run : List ℕ → List V → Type 0) (read : Reader (List V)) (stream : Option ℕ) (first last : F)
+    (before held : List V) (asked : ℕ) (answer : Result (List V) RunFault) : Type 0 where
   pub takes : List Taken
   pub led : fed first takes last
   pub own : AllIn stream takes

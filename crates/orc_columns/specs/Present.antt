@@ -40,7 +40,9 @@ PresentContinues old new asked bytes after (Err fault) =
 
 -- A batch of flags was given: it took from PRESENT alone, a failed read has its cause, and where the stream was told,
 -- the flags are the next.
-pub record PresentFills {F : Type 0} (rest : F → ℕ → Option (List ℕ)) (fed : F → List Taken → F → Type 0) (count : F → ℕ) (old new : PresentOf) (first last : F) (asked : ℕ) (answer : Result (List Bool) RunFault) : Type 0 where
+pub record PresentFills {F : Type 0} (rest : F → ℕ → Option (List ℕ)) (fed : F → List Taken → F → Type 0)
+    (count : F → ℕ) (old new : PresentOf) (first last : F) (asked : ℕ)
+    (answer : Result (List Bool) RunFault) : Type 0 where
   pub takes : List Taken
   pub led : fed first takes last
   pub own : AllIn old.stream takes

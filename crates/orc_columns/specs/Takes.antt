@@ -12,7 +12,8 @@ use Rattle.orc_columns.specs.Draws.{OnlyBody, OnlyDictionary}
 use Rattle.orc_columns.specs.Optional.{rest_in, AllIn}
 
 -- What `Reads` says of a call, of a stream that may be lacking.
-pub record ReadsIn {F Y : Type 0} (rest : F → ℕ → Option (List ℕ)) (fed : F → List Taken → F → Type 0) (count : F → ℕ) (stream : Option ℕ) (read : Reader Y) (first last : F) (answer : Result Y RunFault) : Type 0 where
+pub record ReadsIn {F Y : Type 0} (rest : F → ℕ → Option (List ℕ)) (fed : F → List Taken → F → Type 0) (count : F → ℕ)
+    (stream : Option ℕ) (read : Reader Y) (first last : F) (answer : Result Y RunFault) : Type 0 where
   pub takes : List Taken
   pub led : fed first takes last
   pub own : AllIn stream takes

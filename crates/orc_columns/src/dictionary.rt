@@ -1,5 +1,6 @@
 //! Texts of a dictionary.
-ghost use Rattle.std.specs.Prelude.{◌≡◌, ◌∷◌, ◌<◌, ◌≤◌, ◌^◌, ℕ, [], length, map, sum, unsigned_abs, All, Contains, OnOk, IfOk, IfErr, IsTrue, IsFalse};
+ghost use Rattle.std.specs.Prelude.{◌≡◌, ◌∷◌, ◌<◌, ◌≤◌, ◌^◌, ℕ, [], length, map, sum, unsigned_abs, All, Contains};
+ghost use Rattle.std.specs.Prelude.{OnOk, IfOk, IfErr, IsTrue, IsFalse};
 ghost use Rattle.std.specs.Int.{w64, cast_unsigned, IsNonNegative};
 ghost use Rattle.outside.specs.Reading.{placed};
 ghost use Rattle.orc_values.specs.Texts.{running_ends};
@@ -16,9 +17,10 @@ ghost use Rattle.orc_columns.specs.Midway.{spelling_in};
 ghost use Rattle.orc_columns.specs.Reader.{HasLengths};
 ghost use Rattle.orc_columns.specs.Turns.{alone};
 
+use crate::batch::BATCH;
 use crate::entry_lengths::push_all_lengths;
 use crate::fault::ColumnFault;
-use crate::fills::{BATCH, fill_numbers};
+use crate::fills::fill_numbers;
 use crate::integers::Integers;
 use crate::lengths::total_of;
 use crate::plan::ColumnPlan;

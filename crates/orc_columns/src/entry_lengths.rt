@@ -6,8 +6,9 @@ ghost use Rattle.orc_columns.specs.Batches.{HoldsNoRead, LengthsGoOn, LengthsBre
 ghost use Rattle.orc_columns.specs.Draws.{StreamsDiffer, Draws};
 ghost use Rattle.orc_columns.specs.Turns.{alone};
 
+use crate::batch::BATCH;
 use crate::fault::ColumnFault;
-use crate::fills::{BATCH, fill_lengths};
+use crate::fills::fill_lengths;
 use crate::integers::Integers;
 use outside::Feed;
 

@@ -2,7 +2,8 @@
 ghost use Rattle.std.specs.Prelude.{◌≡◌, ◌≤◌, length, take, drop, None, OnOk, IfErr};
 ghost use Rattle.outside.specs.Reading.{placed};
 ghost use Rattle.orc_columns.specs.declared.plan.ColumnPlan.{ColumnPlan};
-ghost use Rattle.orc_columns.specs.Batches.{HoldsNoRead, FlagsGoOn, FlagsBreak, NumbersGoOn, NumbersBreak, LengthsGoOn, LengthsBreak, BitsGoOn, BitsBreak};
+ghost use Rattle.orc_columns.specs.Batches.{HoldsNoRead, FlagsGoOn, FlagsBreak, NumbersGoOn, NumbersBreak, LengthsGoOn};
+ghost use Rattle.orc_columns.specs.Batches.{LengthsBreak, BitsGoOn, BitsBreak};
 ghost use Rattle.orc_columns.specs.Draws.{StreamsDiffer, Draws};
 ghost use Rattle.orc_columns.specs.Turns.{alone};
 
@@ -11,9 +12,6 @@ use crate::fault::{ColumnFault, StreamName, of_run};
 use crate::integers::Integers;
 use crate::present::Present;
 use outside::Feed;
-
-/// The greatest number of rows of a batch.
-pub(crate) const BATCH: usize = 1024;
 
 /// Gives the flags of the next rows.
 pub(crate) fn fill_flags<F: Feed>(

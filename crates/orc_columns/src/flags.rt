@@ -3,13 +3,11 @@ ghost use Rattle.std.specs.Prelude.{◌≡◌, length, None};
 ghost use Rattle.orc_rle.specs.BitRun.{BitRun, bit_run};
 ghost use Rattle.orc_columns.specs.Flags.{ReadsFlags, ReadsBits};
 
+use crate::batch::BATCH;
 use crate::bit_stream::BitStream;
 use crate::present::Present;
 use orc_values::count_present;
 use outside::{Feed, RunFault};
-
-/// How many flags are read at once.
-const BATCH: usize = 1024;
 
 /// Reads the flags of the next `rows` rows, and answers how many are set.
 ///

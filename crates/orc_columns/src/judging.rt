@@ -2,7 +2,8 @@
 ghost use Rattle.std.specs.Prelude.{◌≡◌, ◌∷◌, Some, IfErr};
 ghost use Rattle.orc_columns.specs.Column.{Streams, LengthsFail, ValuesFail, Fails};
 ghost use Rattle.orc_columns.specs.Draws.{StreamsDiffer, Tells, Draws};
-ghost use Rattle.orc_columns.specs.FirstFault.{found_by, IsJudged, Judges, Sized, StandingRows, NoStandingRows, JudgedLengths, JudgedValues, JudgedColumn};
+ghost use Rattle.orc_columns.specs.FirstFault.{found_by, IsJudged, Judges, Sized, StandingRows, NoStandingRows};
+ghost use Rattle.orc_columns.specs.FirstFault.{JudgedLengths, JudgedValues, JudgedColumn};
 ghost use Rattle.orc_columns.specs.Spelling.{spelling_of as spelling_by};
 ghost use Rattle.orc_columns.specs.Turns.{alone, judged_values};
 ghost use Rattle.orc_columns.specs.declared.spelling.Spelling.TheVariants.{Bits, Integers as OfIntegers, Texts, Dictionary};

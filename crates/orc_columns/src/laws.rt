@@ -10,7 +10,10 @@ pub fn a_column_is_one()
     ensures never_both { NeverBoth }
     ensures one_list { IsOneList }
     ensures one_fault { IsOneFault }
-{}
+{
+    orc_rle::laws::runs_are_read();
+    orc_rle2::laws::runs_are_read();
+}
 
 /// The rows that a reader has given, batch by batch, are the column's first: so batches join to the column.
 pub fn a_reader_gives_the_column()

@@ -1,5 +1,6 @@
 //! The lengths of texts.
-ghost use Rattle.std.specs.Prelude.{◌≡◌, ◌+◌, ◌<◌, ◌≤◌, false, length, map, sum, take, unsigned_abs, None, All, Contains, MatchOption, OnOk, IfOk, IfErr, IsTrue, IsFalse, ℤ};
+ghost use Rattle.std.specs.Prelude.{◌≡◌, ◌+◌, ◌<◌, ◌≤◌, false, length, map, sum, take, unsigned_abs, None, All};
+ghost use Rattle.std.specs.Prelude.{Contains, MatchOption, OnOk, IfOk, IfErr, IsTrue, IsFalse, ℤ};
 ghost use Rattle.std.specs.Int.{IsNonNegative};
 ghost use Rattle.outside.specs.Reading.{placed};
 ghost use Rattle.orc_columns.specs.declared.plan.ColumnPlan.{ColumnPlan};

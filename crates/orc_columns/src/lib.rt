@@ -1,6 +1,7 @@
 //! Columns of a stripe: their values, decoded from streams.
 #![tactic(auto)]
 
+mod batch;
 mod bit_stream;
 mod column_reader;
 mod dictionary;

@@ -4,11 +4,9 @@ ghost use Rattle.std.specs.Int.{w64, cast_unsigned};
 ghost use Rattle.orc_columns.specs.Numbers.{ReadsNumbers, total_from, bound_from};
 ghost use Rattle.orc_columns.specs.Spelling.{IntRun, int_run};
 
+use crate::batch::BATCH;
 use crate::integers::Integers;
 use outside::{Feed, RunFault};
-
-/// How many integers are read at once.
-const BATCH: usize = 1024;
 
 /// What judging a column asks of its integers, as unsigned numbers of 64 bits.
 #[derive(Clone, Copy)]

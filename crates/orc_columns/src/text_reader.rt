@@ -11,8 +11,8 @@ ghost use Rattle.orc_columns.specs.Draws.{StreamsDiffer, Draws};
 ghost use Rattle.orc_columns.specs.Midway.{spelling_in};
 ghost use Rattle.orc_columns.specs.Turns.{alone};
 
+use crate::batch::BATCH;
 use crate::fault::ColumnFault;
-use crate::fills::BATCH;
 use crate::integers::Integers;
 use crate::lengths::next_lengths;
 use crate::text_bytes::read_bytes;
