@@ -30,16 +30,22 @@ pub slices-append : (at : ℕ) (lens more bytes : List ℕ)
 slices-append at [] more bytes = let e : at + 0 ≡ at = omega arith in ap (λ (n : ℕ). slices n more bytes) (sym e)
 slices-append at (len ∷ lens) more bytes =
     let e : at + len + sum lens ≡ at + sum (len ∷ lens) = omega (arith, sum-cons len lens) in
-    ap (λ (l : List (List ℕ)). slice_range bytes at (at + len) ∷ l) (slices-append (at + len) lens more bytes ∙ ap (λ (n : ℕ). slices (at + len) lens bytes ++ slices n more bytes) e)
+    ap (λ (l : List (List ℕ)). slice_range bytes at (at + len) ∷ l)
+        (slices-append (at + len) lens more bytes
+        ∙ ap (λ (n : ℕ). slices (at + len) lens bytes ++ slices n more bytes) e)
 
 pub texts_from-append : (from : ℕ) (ends more bytes : List ℕ)
     → texts_from from (ends ++ more) bytes ≡ texts_from from ends bytes ++ texts_from (last_end from ends) more bytes
 texts_from-append from [] more bytes = refl
-texts_from-append from (end ∷ ends) more bytes = ap (λ (l : List (List ℕ)). slice_range bytes from end ∷ l) (texts_from-append end ends more bytes)
+texts_from-append from (end ∷ ends) more bytes = ap (λ (l : List (List ℕ)). slice_range bytes from end ∷ l)
+    (texts_from-append end ends more bytes)
 
 pub first_le-limit : (from : ℕ) (ends : List ℕ) (limit : ℕ) → AreEnds from ends limit → from ≤ limit
 first_le-limit from [] limit are = are
-first_le-limit from (end ∷ ends) limit are = let h : end ≤ limit = first_le-limit end ends limit are.1 in let k : from ≤ end = are.0 in omega arith
+first_le-limit from (end ∷ ends) limit are =
+    let h : end ≤ limit = first_le-limit end ends limit are.1 in
+    let k : from ≤ end = are.0 in
+    omega arith
 
 -- bytes behind those that the lengths need don't count
 slice_range-front : (front back : List ℕ) (from to : ℕ) → from ≤ to → to ≤ length front
@@ -52,14 +58,17 @@ pub slices-front : (at : ℕ) (lens front back : List ℕ) → at + sum lens ≤
     → slices at lens (front ++ back) ≡ slices at lens front
 slices-front at [] front back h = refl
 slices-front at (len ∷ lens) front back h =
-    ap (λ (l : List ℕ). l ∷ slices (at + len) lens (front ++ back)) (slice_range-front front back at (at + len) (omega arith) (omega (arith, sum-cons len lens)))
-    ∙ ap (λ (l : List (List ℕ)). slice_range front at (at + len) ∷ l) (slices-front (at + len) lens front back (omega (arith, sum-cons len lens)))
+    ap (λ (l : List ℕ). l ∷ slices (at + len) lens (front ++ back))
+        (slice_range-front front back at (at + len) (omega arith) (omega (arith, sum-cons len lens)))
+    ∙ ap (λ (l : List (List ℕ)). slice_range front at (at + len) ∷ l)
+        (slices-front (at + len) lens front back (omega (arith, sum-cons len lens)))
 
 pub texts_from-front : (from : ℕ) (ends front back : List ℕ) → AreEnds from ends (length front)
     → texts_from from ends (front ++ back) ≡ texts_from from ends front
 texts_from-front from [] front back are = refl
 texts_from-front from (end ∷ ends) front back are =
-    ap (λ (l : List ℕ). l ∷ texts_from end ends (front ++ back)) (slice_range-front front back from end are.0 (first_le-limit end ends (length front) are.1))
+    ap (λ (l : List ℕ). l ∷ texts_from end ends (front ++ back))
+        (slice_range-front front back from end are.0 (first_le-limit end ends (length front) are.1))
     ∙ ap (λ (l : List (List ℕ)). slice_range front from end ∷ l) (texts_from-front end ends front back are.1)
 
 -- nor do those in front of the place

@@ -8,17 +8,21 @@ pub woven-append : {A : Type 0} (before after : List Bool) (front back : List A)
     woven (before ++ after) (front ++ back) ≡ woven before front ++ woven after back
 woven-append [] after [] back h = refl
 woven-append [] after (x ∷ front) back h = absurd (omega arith)
-woven-append {A} (false ∷ before) after front back h = ap (λ (l : List (Option A)). None ∷ l) (woven-append before after front back (omega arith))
+woven-append {A} (false ∷ before) after front back h = ap (λ (l : List (Option A)). None ∷ l)
+    (woven-append before after front back (omega arith))
 woven-append (true ∷ before) after [] back h = absurd (omega arith)
-woven-append {A} (true ∷ before) after (x ∷ front) back h = ap (λ (l : List (Option A)). Some x ∷ l) (woven-append before after front back (omega arith))
+woven-append {A} (true ∷ before) after (x ∷ front) back h = ap (λ (l : List (Option A)). Some x ∷ l)
+    (woven-append before after front back (omega arith))
 
 pub aligned-append : {A : Type 0} (before after : List Bool) (front back : List A) → length front ≡ length before →
     aligned (before ++ after) (front ++ back) ≡ aligned before front ++ aligned after back
 aligned-append [] after [] back h = refl
 aligned-append [] after (x ∷ front) back h = absurd (omega arith)
 aligned-append (p ∷ before) after [] back h = absurd (omega arith)
-aligned-append {A} (true ∷ before) after (x ∷ front) back h = ap (λ (l : List (Option A)). Some x ∷ l) (aligned-append before after front back (omega arith))
-aligned-append {A} (false ∷ before) after (x ∷ front) back h = ap (λ (l : List (Option A)). None ∷ l) (aligned-append before after front back (omega arith))
+aligned-append {A} (true ∷ before) after (x ∷ front) back h = ap (λ (l : List (Option A)). Some x ∷ l)
+    (aligned-append before after front back (omega arith))
+aligned-append {A} (false ∷ before) after (x ∷ front) back h = ap (λ (l : List (Option A)). None ∷ l)
+    (aligned-append before after front back (omega arith))
 
 pub present_count-append : (before after : List Bool) → present_count (before ++ after) ≡ present_count before + present_count after
 present_count-append [] after = omega arith
@@ -49,7 +53,8 @@ woven-all [] [] h all = refl
 woven-all [] (x ∷ values) h all = absurd (omega arith)
 woven-all (p ∷ present) [] h all = absurd (omega arith)
 woven-all (false ∷ present) (x ∷ values) h all = absurd (omega (arith, present_count-le present))
-woven-all {A} (true ∷ present) (x ∷ values) h all = ap (λ (l : List (Option A)). Some x ∷ l) (woven-all present values (omega arith) (omega arith))
+woven-all {A} (true ∷ present) (x ∷ values) h all = ap (λ (l : List (Option A)). Some x ∷ l)
+    (woven-all present values (omega arith) (omega arith))
 
 pub aligned-all : {A : Type 0} (present : List Bool) (values : List A) → length present ≡ length values
     → present_count present ≡ length present → aligned present values ≡ map (λ x. Some x) values
@@ -57,4 +62,5 @@ aligned-all [] [] h all = refl
 aligned-all [] (x ∷ values) h all = absurd (omega arith)
 aligned-all (p ∷ present) [] h all = absurd (omega arith)
 aligned-all (false ∷ present) (x ∷ values) h all = absurd (omega (arith, present_count-le present))
-aligned-all {A} (true ∷ present) (x ∷ values) h all = ap (λ (l : List (Option A)). Some x ∷ l) (aligned-all present values (omega arith) (omega arith))
+aligned-all {A} (true ∷ present) (x ∷ values) h all = ap (λ (l : List (Option A)). Some x ∷ l)
+    (aligned-all present values (omega arith) (omega arith))
