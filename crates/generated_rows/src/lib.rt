@@ -1,0 +1,6 @@
+//! The rows of a generated file.
+#![tactic(auto)]
+
+mod row;
+
+pub use row::row_at;
