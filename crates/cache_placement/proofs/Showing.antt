@@ -1,5 +1,5 @@
 -- What a placement's answer tells, by its steps.
-use Rattle.std.proofs.Common.{◌≡◌, ℕ, ◌+◌, ◌<◌, ◌≤◌, List, [], ◌∷◌, ◌++◌, refl, sym, ap, ◌∙◌, subst, inl, inr, arith}
+use Rattle.std.proofs.Common.{◌≡◌, ℕ, ◌+◌, ◌*◌, ◌<◌, ◌≤◌, List, [], ◌∷◌, ◌++◌, refl, sym, ap, ◌∙◌, subst, inl, inr, arith}
 use Rattle.std.specs.Prelude.{Some, None, ◌⊎◌, slice_index}
 use Rattle.std.specs.Option.{option_or}
 use Rattle.std.proofs.lemmas.Bool.{cases_eq}
@@ -14,15 +14,21 @@ use Rattle.pool_rule.specs.declared.word_step.WordStep.{WordStep}
 use Rattle.pool_rule.specs.declared.word_step.WordStep.TheVariants as step
 use Rattle.pool_rule.specs.WordSteps.{event_of}
 use Rattle.buffer_pool.specs.Made.{cell_in, fill_steps}
-use Rattle.buffer_pool.specs.Pools.{block_of, buffer_key}
+use Rattle.buffer_pool.specs.Pools.{block_at, block_of, buffer_key}
 use Rattle.cache_lookup.specs.Trails.{Among, events, last_load, left, loaded}
 use Rattle.cache_lookup.specs.TrailLaws.{AreNoLoads, among_back, among_either, last_load-none, left_here, loaded_here, no_load_away}
 use Rattle.cache_placement.specs.declared.arenas.Asked.{Asked}
 use Rattle.cache_placement.specs.declared.arenas.Asked.TheVariants as asked
 use Rattle.cache_placement.specs.declared.why.Placed.{Placed}
 use Rattle.cache_placement.specs.Free.{IsFirstFree}
-use Rattle.cache_placement.specs.Placements.{IsArenaRaced, IsFilled, IsHeaderRaced, IsLost, Tells}
+use Rattle.cache_placement.specs.Placements.{IsArenaRaced, IsFilled, IsHeaderRaced, IsLost, IsPlaceStep, Tells, made_by}
+use Rattle.cache_placement.specs.Placements as place
+use Rattle.cache_placement.specs.Publications.{publications, publications-append}
 use Rattle.cache_placement.specs.Steps.{AskSteps, OpenSteps, PlaceSteps, none_left, full, got, raced, lost, filled, set_full, no_room, arena_raced, opens}
+
+-- a step is the one of which that is said
+is_place : (t s : WordStep) → t ≡ s → IsPlaceStep t → IsPlaceStep s
+is_place t s e h = let P : WordStep → Type 0 = λ x. IsPlaceStep x in subst P e h
 
 abbrev IsFull : Asked → Type 0
 IsFull (asked.Got grant) = ⊥
@@ -120,37 +126,55 @@ module _ (g : Geometry) (order : ℕ) (words : List ℕ) (until : ℕ) where
   ask_opens header b cells arena ss r (raced _ found saw inside other) (inr (inl e)) = (let no : ⊥ = cc in no)
   ask_opens header b cells arena ss r (raced _ found saw inside other) (inr (inr gone)) = gone
 
-  ask_releases : (header : ℕ) (b : Block) (f arena : ℕ) (ss : List WordStep) (r : Asked) → AskSteps g order words until arena ss r → Among (step.HeaderReleased header b f) ss → ⊥
-  ask_releases header b f arena ss r (none_left _ e) gone = gone
-  ask_releases header b f arena ss r (full _ found ts _ inside none at more) (inl e) = (let no : ⊥ = cc in no)
-  ask_releases header b f arena ss r (full _ found ts _ inside none at more) (inr there) = ask_releases header b f (arena + 1) ts r more there
-  ask_releases header b f arena ss r (got _ found offset grant inside answer at) (inl e) = (let no : ⊥ = cc in no)
-  ask_releases header b f arena ss r (got _ found offset grant inside answer at) (inr (inl e)) = (let no : ⊥ = cc in no)
-  ask_releases header b f arena ss r (got _ found offset grant inside answer at) (inr (inr gone)) = gone
-  ask_releases header b f arena ss r (raced _ found saw inside other) (inl e) = (let no : ⊥ = cc in no)
-  ask_releases header b f arena ss r (raced _ found saw inside other) (inr (inl e)) = (let no : ⊥ = cc in no)
-  ask_releases header b f arena ss r (raced _ found saw inside other) (inr (inr gone)) = gone
+  ask_only : (arena : ℕ) (ss : List WordStep) (r : Asked) → AskSteps g order words until arena ss r → (s : WordStep) → Among s ss → IsPlaceStep s
+  ask_only arena ss r (none_left _ e) s gone = absurd gone
+  ask_only arena ss r (full _ found ts _ inside none at more) s (inl e) = is_place _ s e (place.asked arena found)
+  ask_only arena ss r (full _ found ts _ inside none at more) s (inr there) = ask_only (arena + 1) ts r more s there
+  ask_only arena ss r (got _ found offset grant inside answer at) s (inl e) = is_place _ s e (place.asked arena found)
+  ask_only arena ss r (got _ found offset grant inside answer at) s (inr (inl e)) = is_place _ s e (place.granted (block_at (64 * arena + offset) order) found)
+  ask_only arena ss r (got _ found offset grant inside answer at) s (inr (inr gone)) = absurd gone
+  ask_only arena ss r (raced _ found saw inside other) s (inl e) = is_place _ s e (place.asked arena found)
+  ask_only arena ss r (raced _ found saw inside other) s (inr (inl e)) = is_place _ s e (place.missed (Arena arena) saw)
+  ask_only arena ss r (raced _ found saw inside other) s (inr (inr gone)) = absurd gone
+
+  ask_publishes : (arena : ℕ) (ss : List WordStep) (r : Asked) → AskSteps g order words until arena ss r → publications ss ≡ 0
+  ask_publishes arena ss r (none_left _ e) = refl
+  ask_publishes arena ss r (full _ found ts _ inside none at more) = let e = ask_publishes (arena + 1) ts r more in omega (arith, e)
+  ask_publishes arena ss r (got _ found offset grant inside answer at) = refl
+  ask_publishes arena ss r (raced _ found saw inside other) = refl
 
 -- ---- the new buffer
 
-fills_release : (header : ℕ) (b : Block) (f h : ℕ) (c : Block) (key : BufferKey) (cell : ℕ → ℕ) (done : ℕ) (found : List ℕ) → Among (step.HeaderReleased header b f) (fill_steps h c key cell done found) → ⊥
-fills_release header b f h c key cell done [] gone = gone
-fills_release header b f h c key cell done (x ∷ xs) (inl e) = (let no : ⊥ = cc in no)
-fills_release header b f h c key cell done (x ∷ xs) (inr there) = fills_release header b f h c key cell (done + 1) xs there
+fills_only : (h : ℕ) (c : Block) (key : BufferKey) (cell : ℕ → ℕ) (done : ℕ) (found : List ℕ) (s : WordStep) → Among s (fill_steps h c key cell done found) → IsPlaceStep s
+fills_only h c key cell done [] s gone = absurd gone
+fills_only h c key cell done (x ∷ xs) s (inl e) = is_place _ s e (place.filled h c key done (cell done) x)
+fills_only h c key cell done (x ∷ xs) s (inr there) = fills_only h c key cell (done + 1) xs s there
+
+fills_publish : (h : ℕ) (c : Block) (key : BufferKey) (cell : ℕ → ℕ) (done : ℕ) (found : List ℕ) → publications (fill_steps h c key cell done found) ≡ 0
+fills_publish h c key cell done [] = refl
+fills_publish h c key cell done (x ∷ xs) = let e = fills_publish h c key cell (done + 1) xs in omega (arith, e)
 
 module _ (key : Key) (header : ℕ) (b : Block) where
-  open_releases : (h : ℕ) (c : Block) (f : ℕ) (ts : List WordStep) (r : Placed) → OpenSteps key header b ts r → Among (step.HeaderReleased h c f) ts → ⊥
-  open_releases h c f ts r (lost saw found far) (inl e) = (let no : ⊥ = cc in no)
-  open_releases h c f ts r (lost saw found far) (inr (inl e)) = (let no : ⊥ = cc in no)
-  open_releases h c f ts r (lost saw found far) (inr (inr gone)) = gone
-  open_releases h c f ts r (filled cells bytes found named published pin is its) (inl e) = (let no : ⊥ = cc in no)
-  open_releases h c f ts r (filled cells bytes found named published pin is its) (inr (inl e)) = (let no : ⊥ = cc in no)
-  open_releases h c f ts r (filled cells bytes found named published pin is its) (inr (inr there)) =
+  open_only : (ts : List WordStep) (r : Placed) → OpenSteps key header b ts r → (s : WordStep) → Among s ts → IsPlaceStep s
+  open_only ts r (lost saw found far) s (inl e) = is_place _ s e (place.missed (State header) saw)
+  open_only ts r (lost saw found far) s (inr (inl e)) = is_place _ s e (place.returned b found)
+  open_only ts r (lost saw found far) s (inr (inr gone)) = absurd gone
+  open_only ts r (filled cells bytes found named published pin is its) s (inl e) = is_place _ s e (place.opened header b cells)
+  open_only ts r (filled cells bytes found named published pin is its) s (inr (inl e)) = is_place _ s e (place.named header b (buffer_key key) named)
+  open_only ts r (filled cells bytes found named published pin is its) s (inr (inr there)) =
       let fills = fill_steps header b (buffer_key key) (cell_in bytes) 0 found in
-      elim (among_either (step.HeaderReleased h c f) fills (step.Published header b (buffer_key key) published ∷ []) there) [
-        | inl front ↦ fills_release h c f header b (buffer_key key) (cell_in bytes) 0 found front
-        | inr rest ↦ elim rest [ inl e ↦ (let no : ⊥ = cc in no) | inr gone ↦ gone ]
+      elim (among_either s fills (step.Published header b (buffer_key key) published ∷ []) there) [
+        | inl front ↦ fills_only header b (buffer_key key) (cell_in bytes) 0 found s front
+        | inr rest ↦ elim rest [ inl e ↦ is_place _ s e (place.published header b (buffer_key key) published) | inr gone ↦ absurd gone ]
       ]
+
+  open_publishes : (ts : List WordStep) (r : Placed) → OpenSteps key header b ts r → publications ts ≡ made_by r
+  open_publishes ts r (lost saw found far) = refl
+  open_publishes ts r (filled cells bytes found named published pin is its) =
+      let fills = fill_steps header b (buffer_key key) (cell_in bytes) 0 found in
+      let sum = publications-append fills (step.Published header b (buffer_key key) published ∷ []) in
+      let none = fills_publish header b (buffer_key key) (cell_in bytes) 0 found in
+      omega (arith, sum, none)
 
   -- a header that was granted a block is filled or lost
   open_answer : (xs ts : List WordStep) (r : Placed) → OpenSteps key header b ts r → IsFilled r ⊎ IsLost (xs ++ ts) r
@@ -199,12 +223,22 @@ module _ (g : Geometry) (key : Key) (order first : ℕ) (states : List ℕ) (fro
         | inr rest ↦ open_opens key (first + way) (block_of grant) header b cells ts r o rest
       ]
 
-  pub place_released : (ss : List WordStep) (r : Placed) → PlaceSteps g key order first states from until ss r → (header : ℕ) (b : Block) (found : ℕ) → Among (step.HeaderReleased header b found) ss → ⊥
-  place_released ss r (set_full none) header b found gone = gone
-  place_released ss r (no_room way words _ is a past) header b found there = ask_releases g order words until header b found from ss asked.Full a there
-  place_released ss r (arena_raced way saw words _ is a) header b found there = ask_releases g order words until header b found from ss (asked.Raced saw) a there
-  place_released ss r (opens way words grant xs ts _ is a o) header b found there =
-      elim (among_either (step.HeaderReleased header b found) xs ts there) [
-        | inl front ↦ ask_releases g order words until header b found from xs (asked.Got grant) a front
-        | inr rest ↦ open_releases key (first + way) (block_of grant) header b found ts r o rest
+  pub place_only : (ss : List WordStep) (r : Placed) → PlaceSteps g key order first states from until ss r → (s : WordStep) → Among s ss → IsPlaceStep s
+  place_only ss r (set_full none) s gone = absurd gone
+  place_only ss r (no_room way words _ is a past) s there = ask_only g order words until from ss asked.Full a s there
+  place_only ss r (arena_raced way saw words _ is a) s there = ask_only g order words until from ss (asked.Raced saw) a s there
+  place_only ss r (opens way words grant xs ts _ is a o) s there =
+      elim (among_either s xs ts there) [
+        | inl front ↦ ask_only g order words until from xs (asked.Got grant) a s front
+        | inr rest ↦ open_only key (first + way) (block_of grant) ts r o s rest
       ]
+
+  pub place_publishes : (ss : List WordStep) (r : Placed) → PlaceSteps g key order first states from until ss r → publications ss ≡ made_by r
+  place_publishes ss r (set_full none) = refl
+  place_publishes ss r (no_room way words _ is a past) = ask_publishes g order words until from ss asked.Full a
+  place_publishes ss r (arena_raced way saw words _ is a) = ask_publishes g order words until from ss (asked.Raced saw) a
+  place_publishes ss r (opens way words grant xs ts _ is a o) =
+      let sum = publications-append xs ts in
+      let none = ask_publishes g order words until from xs (asked.Got grant) a in
+      let one = open_publishes key (first + way) (block_of grant) ts r o in
+      omega (arith, sum, none, one)

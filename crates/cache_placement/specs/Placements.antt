@@ -8,7 +8,10 @@ use Rattle.pool_rule.specs.declared.geometry.Geometry.{Geometry}
 use Rattle.pool_rule.specs.declared.geometry.WordName.TheVariants.{Arena, State}
 use Rattle.pool_rule.specs.declared.view.View.{View}
 use Rattle.pool_rule.specs.declared.word_step.WordStep.{WordStep}
-use Rattle.pool_rule.specs.declared.word_step.WordStep.TheVariants.{Missed, Granted, HeaderReleased, Opened}
+use Rattle.pool_model.specs.declared.buffer.BufferKey.{BufferKey}
+use Rattle.pool_rule.specs.declared.geometry.WordName.{WordName}
+use Rattle.pool_rule.specs.declared.word_step.WordStep.TheVariants as step
+use Rattle.pool_rule.specs.declared.word_step.WordStep.TheVariants.{Looked, Missed, Granted, Returned, Opened, Named, Published}
 use Rattle.buffer_pool.specs.declared.pool.Pool.{Pool}
 use Rattle.buffer_pool.specs.declared.seat.PoolSeat.{PoolSeat}
 use Rattle.buffer_pool.specs.Pools.{pin_header, seat_id, sizes_of, view}
@@ -21,6 +24,7 @@ use Rattle.cache_placement.specs.declared.why.Placed.TheVariants.{Filled, Bypass
 use Rattle.cache_placement.specs.declared.why.Why.TheVariants.{NoRoom, Raced, Busy, SetFull, PolicyOut}
 use Rattle.cache_placement.specs.Exact.{AreStates, IsExact}
 use Rattle.cache_placement.specs.Free.{IsFirstFree, NoneFree}
+use Rattle.cache_placement.specs.Publications.{publications}
 
 -- The words are the last loads of the words of the arenas from one on and below another, and none of these has a free block of the
 -- order by them. Past the last of them they are all ones.
@@ -66,6 +70,23 @@ abbrev pub IsFilled : Placed → Type 0
 IsFilled (Filled pin) = Unit {0}
 IsFilled (Bypass why) = ⊥
 
+-- how many buffers an answer stands for
+abbrev pub made_by : Placed → ℕ
+made_by (Filled pin) = 1
+made_by (Bypass why) = 0
+
+-- The steps of a placement: loads of arenas' words, exchanges that found another word, a block that is granted or given back, and
+-- a buffer that is opened, named, filled and published.
+pub data IsPlaceStep : WordStep → Type 0 where
+  asked : (arena found : ℕ) → IsPlaceStep (Looked (Arena arena) found)
+  missed : (word : WordName) (found : ℕ) → IsPlaceStep (Missed word found)
+  granted : (b : Block) (found : ℕ) → IsPlaceStep (Granted b found)
+  returned : (b : Block) (found : ℕ) → IsPlaceStep (Returned b found)
+  opened : (header : ℕ) (b : Block) (cells : List ℕ) → IsPlaceStep (Opened header b cells)
+  named : (header : ℕ) (b : Block) (key : BufferKey) (found : ℕ) → IsPlaceStep (Named header b key found)
+  filled : (header : ℕ) (b : Block) (key : BufferKey) (done value found : ℕ) → IsPlaceStep (step.Filled header b key done value found)
+  published : (header : ℕ) (b : Block) (key : BufferKey) (found : ℕ) → IsPlaceStep (Published header b key found)
+
 -- the answer is that the header was lost, by an exchange among these steps
 abbrev pub IsLost : List WordStep → Placed → Type 0
 IsLost ss placed = (header saw : ℕ) × (placed ≡ Bypass (Raced saw)) × Among (Missed (State header) saw) ss
@@ -76,7 +97,7 @@ HoldsPlaced pool seat key (Filled pin) = IsPinFor pool seat key pin
 HoldsPlaced pool seat key (Bypass why) = Unit {0}
 
 -- The seat placed a range by these steps, with that answer. A grant makes the answer that the range is filled, or that the header
--- was lost, and an opening that it is filled. No header is released.
+-- was lost, and an opening that it is filled; one buffer is published where it is, and else none. No header is evicted or released.
 -- If the seat knows the words, and the states are theirs, the answer follows from them.
 pub record IsPlacement (files : Option Files) (g : Geometry) (id : ℕ) (key : Key) (order first : ℕ) (states : List ℕ) (from until : ℕ)
     (ss : List WordStep) (old new : View) (placed : Placed) : Type 0 where
@@ -85,7 +106,8 @@ pub record IsPlacement (files : Option Files) (g : Geometry) (id : ℕ) (key : K
   pub tells : Tells g order first states from until ss placed
   pub granted : (b : Block) (found : ℕ) → Among (Granted b found) ss → IsFilled placed ⊎ IsLost ss placed
   pub opened : (header : ℕ) (b : Block) (cells : List ℕ) → Among (Opened header b cells) ss → IsFilled placed
-  pub unreleased : (header : ℕ) (b : Block) (found : ℕ) → Among (HeaderReleased header b found) ss → ⊥
+  pub only : (s : WordStep) → Among s ss → IsPlaceStep s
+  pub published : publications ss ≡ made_by placed
   pub exact : (words : List ℕ) → old.known ≡ Some words → AreStates g words first states →
       IsExact g order words first states from until new placed
 

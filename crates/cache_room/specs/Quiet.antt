@@ -35,16 +35,18 @@ use Rattle.cache_lookup.specs.Callers.{as_before, before_made, before_then, righ
 use Rattle.cache_lookup.specs.Right.{AreRight, IsRight}
 use Rattle.cache_lookup.specs.Trails.{Among}
 use Rattle.cache_lookup.specs.TrailLaws.{among_either}
+use Rattle.cache_placement.specs.Publications.{publications, publications-append, published_by}
 use Rattle.cache_room.specs.Tried.{HasTouch, releases, touches_loaded}
 use Rattle.cache_room.specs.TriedLaws.{no_releases, touch_back, touch_front}
 
--- The seat made these steps of a call for that key. Each was right at its moment, none granted a block or opened a header, and the
--- seat has what it had.
+-- The seat made these steps of a call for that key. Each was right at its moment, none granted a block, opened a header or published
+-- a buffer, and the seat has what it had.
 pub record IsQuiet (files : Option Files) (g : Geometry) (id : ℕ) (key : Key) (old : View) (ss : List WordStep) (new : View) : Type 0 where
   pub right : AreRight files g id key ⊥ old [] old ss new
   pub before : IsAsBefore old new
   pub ungranted : (b : Block) (found : ℕ) → Among (Granted b found) ss → ⊥
   pub unopened : (header : ℕ) (b : Block) (cells : List ℕ) → Among (Opened header b cells) ss → ⊥
+  pub unpublished : publications ss ≡ 0
 
 -- ---- a load of a key word
 
@@ -185,7 +187,7 @@ module _ (g : Geometry) (key : Key) (hit : Type 0) (start : View) (before : List
 
 module _ (files : Option Files) (g : Geometry) (id : ℕ) (key : Key) where
   pub quiet_none : (v : View) → IsQuiet files g id key v [] v
-  quiet_none v = record { right = refl; before = as_before v; ungranted = λ b f ended. ended; unopened = λ h b c ended. ended }
+  quiet_none v = record { right = refl; before = as_before v; ungranted = λ b f ended. ended; unopened = λ h b c ended. ended; unpublished = refl }
 
   pub quiet_then : (v u w : View) (ss ts : List WordStep) → IsQuiet files g id key v ss u → IsQuiet files g id key u ts w → IsQuiet files g id key v (ss ++ ts) w
   quiet_then v u w ss ts p q =
@@ -194,6 +196,7 @@ module _ (files : Option Files) (g : Geometry) (id : ℕ) (key : Key) where
         before = before_then v u w p.before q.before;
         ungranted = λ b f there. elim (among_either (Granted b f) ss ts there) [ inl front ↦ p.ungranted b f front | inr rest ↦ q.ungranted b f rest ];
         unopened = λ h b cells there. elim (among_either (Opened h b cells) ss ts there) [ inl front ↦ p.unopened h b cells front | inr rest ↦ q.unopened h b cells rest ];
+        unpublished = (let sum = publications-append ss ts in let a = p.unpublished in let b = q.unpublished in omega (arith, sum, a, b));
       }
 
   -- an update of a free word
@@ -204,6 +207,7 @@ module _ (files : Option Files) (g : Geometry) (id : ℕ) (key : Key) where
         before = before_made files g id (Updated word found left) v v w m refl refl (as_before v);
         ungranted = λ b f there. elim there [ inl e ↦ (let no : ⊥ = cc in no) | inr ended ↦ ended ];
         unopened = λ h b cells there. elim there [ inl e ↦ (let no : ⊥ = cc in no) | inr ended ↦ ended ];
+        unpublished = refl;
       }
 
   -- touches are right at any moment
@@ -227,6 +231,7 @@ module _ (files : Option Files) (g : Geometry) (id : ℕ) (key : Key) where
         before = record { claims = λ h. ap (λ (x : Mark). bare x.claim) (marks h); grants = grants; holds = λ h. ap (λ (x : Mark). x.hold) (marks h) };
         ungranted = λ b f there. elim there [ inl e ↦ (let no : ⊥ = cc in no) | inr ended ↦ ended ];
         unopened = λ h b cells there. elim there [ inl e ↦ (let no : ⊥ = cc in no) | inr ended ↦ ended ];
+        unpublished = refl;
       }
   quiet_held header ss word v w (try.lost seen _ idle ne) all marks grants =
       record {
@@ -234,6 +239,7 @@ module _ (files : Option Files) (g : Geometry) (id : ℕ) (key : Key) where
         before = record { claims = λ h. ap (λ (x : Mark). bare x.claim) (marks h); grants = grants; holds = λ h. ap (λ (x : Mark). x.hold) (marks h) };
         ungranted = λ b f there. elim there [ inl e ↦ (let no : ⊥ = cc in no) | inr more ↦ elim more [ inl e ↦ (let no : ⊥ = cc in no) | inr ended ↦ ended ] ];
         unopened = λ h b cells there. elim there [ inl e ↦ (let no : ⊥ = cc in no) | inr more ↦ elim more [ inl e ↦ (let no : ⊥ = cc in no) | inr ended ↦ ended ] ];
+        unpublished = refl;
       }
 
   pub quiet_out : (header : ℕ) (ss : List WordStep) (b : Block) (v w : View) → OutSteps header ss b → AreMade files g id ss v w → ((h : ℕ) → mark_at w h ≡ mark_at v h) → ((place : ℕ) → granted_at w place ≡ granted_at v place) → IsQuiet files g id key v ss w
@@ -261,6 +267,7 @@ module _ (files : Option Files) (g : Geometry) (id : ℕ) (key : Key) where
               | inl e ↦ (let no : ⊥ = cc in no)
               | inr more ↦ elim more [ inl e ↦ (let no : ⊥ = cc in no) | inr more2 ↦ elim more2 [ inl e ↦ (let no : ⊥ = cc in no) | inr more3 ↦ elim more3 [ inl e ↦ (let no : ⊥ = cc in no) | inr ended ↦ ended ] ] ]
             ];
+        unpublished = refl;
       }
 
 -- ---- consultations
@@ -282,6 +289,16 @@ learn_releases s header b found (load_touches h f) e = cc
 learn_releases s header b found (take_touches h f) e = cc
 learn_releases s header b found (load_key h f) e = cc
 learn_releases s header b found (load_last h f) e = cc
+
+learn_published : (s : WordStep) → IsLearnStep s → published_by s ≡ 0
+learn_published s (load_touches h f) = refl
+learn_published s (take_touches h f) = refl
+learn_published s (load_key h f) = refl
+learn_published s (load_last h f) = refl
+
+learn_publishes : (ss : List WordStep) → AreLearnSteps ss → publications ss ≡ 0
+learn_publishes [] are = refl
+learn_publishes (s ∷ ss) are = let here = learn_published s are.0 in let rest = learn_publishes ss are.1 in omega (arith, here, rest)
 
 learns_none : (t : WordStep) → ((s : WordStep) → IsLearnStep s → s ≡ t → ⊥) → (ss : List WordStep) → AreLearnSteps ss → Among t ss → ⊥
 learns_none t not [] are ended = ended
@@ -339,6 +356,7 @@ module _ (files : Option Files) (g : Geometry) (id : ℕ) (key : Key) (start : V
         before = walk.after;
         ungranted = λ b f there. learns_none (Granted b f) (λ s is e. learn_grants s b f is e) ss are there;
         unopened = λ header b cells there. learns_none (Opened header b cells) (λ s is e. learn_opens s header b cells is e) ss are there;
+        unpublished = learn_publishes ss are;
       }
 
 pub ruleset quiet = (are_known, known_later, no_pin_later, quiet_none, quiet_then, quiet_updated, quiet_held, quiet_out, quiet_consult, consult_releases, consult_touches)

@@ -13,6 +13,8 @@ use Rattle.cache_lookup.specs.Trails.{Among, events}
 use Rattle.cache_lookup.specs.TrailLaws.{events-append}
 use Rattle.cache_eviction.specs.Evictions.{HeldSteps, OutSteps, TrySteps}
 use Rattle.cache_eviction.specs.Evictions as try
+use Rattle.cache_placement.specs.Placements.{IsPlaceStep}
+use Rattle.cache_placement.specs.Placements as place
 use Rattle.cache_room.specs.Tried.{HasEnd, HasTouch, IsEnd, IsTried, gone, last_saw, lost, released_by, releases, saw_by, shown}
 
 -- ---- tries
@@ -102,6 +104,24 @@ no_releases (s ∷ ss) h =
     let rest = no_releases ss (λ header b found there. h header b found (inr there)) in
     omega (arith, here, rest)
 
+-- a placement releases none
+place_released : (s : WordStep) → IsPlaceStep s → released_by s ≡ 0
+place_released s (place.asked arena found) = refl
+place_released s (place.missed word found) = refl
+place_released s (place.granted b found) = refl
+place_released s (place.returned b found) = refl
+place_released s (place.opened header b cells) = refl
+place_released s (place.named header b key found) = refl
+place_released s (place.filled header b key done value found) = refl
+place_released s (place.published header b key found) = refl
+
+pub place_releases : (ss : List WordStep) → ((s : WordStep) → Among s ss → IsPlaceStep s) → releases ss ≡ 0
+place_releases [] only = refl
+place_releases (s ∷ ss) only =
+    let here = place_released s (only s (inl refl)) in
+    let rest = place_releases ss (λ t there. only t (inr there)) in
+    omega (arith, here, rest)
+
 -- ---- the value that a word's last step found
 
 or_or : (a b c : Option ℕ) → option_or (option_or a b) c ≡ option_or a (option_or b c)
@@ -142,4 +162,4 @@ module _ (g : Geometry) where
   saw_away header other xs ys word value apart h was =
       ap (last_saw (header_word g other)) (events-append g xs ys) ∙ (last_saw-front (header_word g other) (events g xs) (events g ys) (held_away header other ys word apart h) ∙ was)
 
-pub ruleset trials = (ends_front, ends_back, touch_front, touch_back, tried_front, tried_back, tried_over, held_end, out_end, releases-append, held_releases, out_releases, out_released, no_releases, last_saw-append, last_saw-back, last_saw-front, saw_here, saw_away)
+pub ruleset trials = (ends_front, ends_back, touch_front, touch_back, tried_front, tried_back, tried_over, held_end, out_end, releases-append, held_releases, out_releases, out_released, no_releases, place_releases, last_saw-append, last_saw-back, last_saw-front, saw_here, saw_away)

@@ -29,16 +29,17 @@ use Rattle.cache_placement.specs.declared.why.Placed.TheVariants as placed
 use Rattle.cache_placement.specs.declared.why.Why.{Why}
 use Rattle.cache_placement.specs.declared.why.Why.TheVariants.{NoRoom, Raced, Busy, SetFull, PolicyOut}
 use Rattle.cache_placement.specs.Free.{IsFirstFree, IsOrder, NoneFree}
-use Rattle.cache_placement.specs.Placements.{HasNoRoom, IsArenaRaced, IsHeaderRaced, IsPlacement}
+use Rattle.cache_placement.specs.Placements.{HasNoRoom, IsArenaRaced, IsHeaderRaced, IsPlaceStep, IsPlacement}
 use Rattle.cache_placement.specs.Placements as placement
 use Rattle.cache_room.specs.declared.wanted.Wanted.{Wanted}
 use Rattle.cache_room.specs.Quiet.{IsQuiet, quiet_then, quiet_updated, touch_before, touch_right}
 use Rattle.cache_room.specs.Rooms.{IfNoRoom, IsRoom, IsSetTried, IsWayFreed, counted, in_free, in_freed, in_none}
 use Rattle.cache_room.specs.Tried.{IsTried, last_saw, releases}
-use Rattle.cache_room.specs.TriedLaws.{last_saw-back, no_releases, releases-append, tried_back, tried_front}
+use Rattle.cache_room.specs.TriedLaws.{last_saw-back, no_releases, place_releases, releases-append, tried_back, tried_front}
 use Rattle.range_cache.specs.declared.ranged.Grip.TheVariants as grip
 use Rattle.range_cache.specs.declared.ranged.How.TheVariants.{Hit, Filled, Bypass}
-use Rattle.range_cache.specs.Callers.{leaves_then}
+use Rattle.cache_placement.specs.Publications.{publications-append}
+use Rattle.range_cache.specs.Callers.{leaves_then, look_publishes, right_trail}
 use Rattle.range_cache.specs.Exact.{IsInNoWay}
 use Rattle.range_cache.specs.Fetches.{IsLost, IsNowhere}
 use Rattle.range_cache.specs.Ranges.{ranged_by}
@@ -123,6 +124,9 @@ module _ (files : Option Files) (g : Geometry) (id : ℕ) (key : Key) (clock : �
                 | inl front ↦ look_opens l.only h b cells front
                 | inr rest ↦ touch_opens h b cells (pin_header pin) (next_tick clock) touches last rest
               ]);
+          published = (let made = publications-append ss end in let no = look_publishes ss l.only in omega (arith, made, no));
+          trail = right_trail files g id key (Unit {0}) v [] (tick ∷ (ss ++ end)) v x
+              (right_then files g id key (Unit {0}) v [] (tick ∷ ss) end v u1 x whole (touch_right files g id key (Unit {0}) v (tick ∷ ss) (pin_header pin) (next_tick clock) touches last u1 x made));
           clock = record { clock = clock; between = ss; end = end; steps = refl; touch = (touches, last, refl) };
           evicted = omega (arith, sum, none);
           looked = λ words known. let e = l.exact (ticked g words) (tick_known words known) in (e.0, e.1, e.3);
@@ -139,6 +143,7 @@ module _ (files : Option Files) (g : Geometry) (id : ℕ) (key : Key) (clock : �
           before = before;
           ungranted = λ b f there. no_grant b f (only (Granted b f) there);
           unopened = λ h b cells there. no_open h b cells (only (Opened h b cells) there);
+          unpublished = look_publishes ss only;
         })
 
     pub busy : (word : ℕ) → IsLookUp files g id key ss states u0 u1 (found.Busy word) → IsFetch files g id key (tick ∷ ss) v u1 (ranged_by (Bypass (Busy word)) 0 (grip.Bypass key))
@@ -151,6 +156,8 @@ module _ (files : Option Files) (g : Geometry) (id : ℕ) (key : Key) (clock : �
           tells = record { front = tick ∷ ss; back = []; parts = sym (append-nil (tick ∷ ss)); early = look_early l.only; told = busy_later l.tells };
           granted = λ b f there. absurd (q.ungranted b f there);
           opened = λ h b cells there. absurd (q.unopened h b cells there);
+          published = q.unpublished;
+          trail = right_trail files g id key ⊥ v [] (tick ∷ ss) v u1 q.right;
           clock = record { clock = clock; between = ss; end = []; steps = ap (λ x. tick ∷ x) (sym (append-nil ss)); touch = refl };
           evicted = omega (arith, none);
           looked = λ words known. l.exact (ticked g words) (tick_known words known);
@@ -163,7 +170,7 @@ module _ (files : Option Files) (g : Geometry) (id : ℕ) (key : Key) (clock : �
     failed : IsAsBefore u0 u1 → AreRight files g id key ⊥ u0 [] u0 ss u1 → ((s : WordStep) → Among s ss → IsLookStep s) → ((words : List ℕ) → u0.known ≡ Some words → u1.known ≡ Some words) → IsFailedFetch files g id key (tick ∷ ss) v u1
     failed before right only words =
         let q = look_quiet before right only in
-        record { right = q.right; clock = clock; rest = ss; steps = refl; only = only; leaves = q.before; words = λ ws known. words (ticked g ws) (tick_known ws known) }
+        record { right = q.right; clock = clock; rest = ss; steps = refl; only = only; trail = right_trail files g id key ⊥ v [] (tick ∷ ss) v u1 q.right; leaves = q.before; words = λ ws known. words (ticked g ws) (tick_known ws known) }
 
     pub busy_failed : (word : ℕ) → IsLookUp files g id key ss states u0 u1 (found.Busy word) → IsFailedFetch files g id key (tick ∷ ss) v u1
     busy_failed word l = failed l.leaves l.right l.only (λ words known. (l.exact words known).4)
@@ -235,6 +242,8 @@ module _ (files : Option Files) (g : Geometry) (id : ℕ) (key : Key) (clock : �
               );
               granted = λ b f there. absurd (q.ungranted b f there);
               opened = λ h b cells there. absurd (q.unopened h b cells there);
+              published = q.unpublished;
+              trail = right_trail files g id key ⊥ v [] all v w q.right;
               clock = record { clock = clock; between = ss ++ s.ss; end = []; steps = ap (λ x. tick ∷ x) (sym (append-nil (ss ++ s.ss))); touch = refl };
               evicted = omega (arith, sum, zero);
               looked = λ words known. in_no_way words known;
@@ -250,11 +259,11 @@ module _ (files : Option Files) (g : Geometry) (id : ℕ) (key : Key) (clock : �
         parts : all ≡ pre ++ (more ++ ts)
         parts = append_assoc pre more ts
 
-        released : ((header : ℕ) (b : Block) (f : ℕ) → Among (HeaderReleased header b f) ts → ⊥) → n ≡ counted all
-        released unreleased =
+        released : ((s : WordStep) → Among s ts → IsPlaceStep s) → n ≡ counted all
+        released only =
             let sum = releases-append (pre ++ more) ts in
             let front = none_before more in
-            let none = no_releases ts unreleased in
+            let none = place_releases ts only in
             omega (arith, sum, front, none, count)
 
         pub filled : (pin : Pin) (touches last : ℕ) (x : View) → IsPlacement files g id key order (first_way g key) states' from until ts mid w (placed.Filled pin) → AreMade files g id (touch_steps (pin_header pin) (next_tick clock) touches last) w x → (steps : List WordStep) × IsFetch files g id key steps v x (ranged_by Filled n (grip.Pin pin))
@@ -262,7 +271,7 @@ module _ (files : Option Files) (g : Geometry) (id : ℕ) (key : Key) (clock : �
             let end = touch_steps (pin_header pin) (next_tick clock) touches last in
             let whole = right_parts files g id key ⊥ v mid w (pre ++ more) ts q.right q.before p.right in
             let sum = releases-append all end in
-            let count' = released p.unreleased in (
+            let count' = released p.only in (
               all ++ end,
               record {
                 right = right_then files g id key ⊥ v [] all end v w x whole (touch_right files g id key ⊥ v all (pin_header pin) (next_tick clock) touches last w x made);
@@ -270,6 +279,9 @@ module _ (files : Option Files) (g : Geometry) (id : ℕ) (key : Key) (clock : �
                 tells = nowhere_early (all ++ end) ((more ++ ts) ++ end) (ap (λ z. z ++ end) parts ∙ append_assoc pre (more ++ ts) end);
                 granted = λ b f there. inl tt;
                 opened = λ h b cells there. tt;
+                published = (let one = publications-append (pre ++ more) ts in let two = publications-append all end in let no = q.unpublished in let is_one = p.published in omega (arith, one, two, no, is_one));
+                trail = right_trail files g id key ⊥ v [] (all ++ end) v x
+                    (right_then files g id key ⊥ v [] all end v w x whole (touch_right files g id key ⊥ v all (pin_header pin) (next_tick clock) touches last w x made));
                 clock = record { clock = clock; between = (ss ++ more) ++ ts; end = end; steps = refl; touch = (touches, last, refl) };
                 evicted = omega (arith, sum, count');
                 looked = λ words known. in_no_way words known;
@@ -359,8 +371,10 @@ module _ (files : Option Files) (g : Geometry) (id : ℕ) (key : Key) (clock : �
                   | inl front ↦ absurd (q.unopened h b cells front)
                   | inr rest ↦ p.opened h b cells rest
                 ];
+            published = (let one = publications-append (pre ++ more) ts in let no = q.unpublished in let is_none = p.published in omega (arith, one, no, is_none));
+            trail = right_trail files g id key ⊥ v [] all v w (right_parts files g id key ⊥ v mid w (pre ++ more) ts q.right q.before p.right);
             clock = record { clock = clock; between = (ss ++ more) ++ ts; end = []; steps = ap (λ x. tick ∷ x) (sym (append-nil ((ss ++ more) ++ ts))); touch = refl };
-            evicted = released p.unreleased;
+            evicted = released p.only;
             looked = looked_why why p.tells;
           },
         )

@@ -22,6 +22,7 @@ use Rattle.cache_lookup.specs.Trails.{Among, events, first_load}
 use Rattle.cache_placement.specs.declared.why.Why.TheVariants.{NoRoom, Raced, Busy, SetFull, PolicyOut}
 use Rattle.cache_placement.specs.Free.{IsOrder}
 use Rattle.cache_placement.specs.Placements.{HasNoRoom, IsArenaRaced, IsHeaderRaced}
+use Rattle.cache_placement.specs.Publications.{publications}
 use Rattle.cache_room.specs.Rooms.{counted}
 use Rattle.cache_room.specs.Tried.{IsTried, last_saw}
 use Rattle.range_cache.specs.declared.ranged.Grip.{Grip}
@@ -30,7 +31,7 @@ use Rattle.range_cache.specs.declared.ranged.How.{How}
 use Rattle.range_cache.specs.declared.ranged.How.TheVariants.{Hit, Filled, Bypass}
 use Rattle.range_cache.specs.declared.ranged.Ranged.{Ranged}
 use Rattle.range_cache.specs.Exact.{IsInNoWay}
-use Rattle.range_cache.specs.Fetches.{IsFilled, IsLost, IsNowhere}
+use Rattle.range_cache.specs.Fetches.{IsFilled, IsLost, IsNowhere, made_by}
 use Rattle.range_cache.specs.Ranges.{GripFits, IsHit, IsRanged, Leaves, range_key}
 
 -- the seat has the range of that key, for which nothing was moved
@@ -121,26 +122,31 @@ IsLooked g key words new (Bypass PolicyOut) = ⊥
 
 -- ---- the whole
 
--- The seat fetched a range by these steps, with that answer. A pin of the key makes it a hit; a grant makes it filled, or the header
--- was lost; and an opening makes it filled. `evicted` counts the headers that were released. If the seat knows the words, whether the
--- range is in the cache follows from them as they are after the tick.
+-- The seat fetched a range by these steps, with that answer, and its trail grew by them and by no others. A pin of the key makes it a
+-- hit; a grant makes it filled, or the header was lost; an opening makes it filled; and one buffer is published where it is filled, and
+-- else none. `evicted` counts the headers that were released. If the seat knows the words, whether the range is in the cache follows from
+-- them as they are after the tick.
 pub record IsFetch (files : Option Files) (g : Geometry) (id : ℕ) (key : Key) (ss : List WordStep) (old new : View) (ranged : Ranged) : Type 0 where
   pub right : AreRight files g id key (IsHit ranged.how) old [] old ss new
   pub leaves : Leaves old new ranged
   pub tells : Tells g key ss ranged.how
   pub granted : (b : Block) (found : ℕ) → Among (Granted b found) ss → IsFilled ranged.how ⊎ IsLost ss ranged.how
   pub opened : (header : ℕ) (b : Block) (cells : List ℕ) → Among (Opened header b cells) ss → IsFilled ranged.how
+  pub published : publications ss ≡ made_by ranged.how
+  pub trail : new.trail ≡ old.trail ++ events g ss
   pub clock : IsTicked ss ranged.held
   pub evicted : ranged.evicted ≡ counted ss
   pub looked : (words : List ℕ) → old.known ≡ Some words → IsLooked g key (ticked g words) new ranged.how
 
--- A fetch whose read failed ticked, made loads, and counts that it took back: nothing but the clock has changed.
+-- A fetch whose read failed ticked, made loads, and counts that it took back, and its trail grew by these: nothing but the clock has
+-- changed.
 pub record IsFailedFetch (files : Option Files) (g : Geometry) (id : ℕ) (key : Key) (ss : List WordStep) (old new : View) : Type 0 where
   pub right : AreRight files g id key ⊥ old [] old ss new
   pub clock : ℕ
   pub rest : List WordStep
   pub steps : ss ≡ Updated Clock clock (next_tick clock) ∷ rest
   pub only : (s : WordStep) → Among s rest → IsLookStep s
+  pub trail : new.trail ≡ old.trail ++ events g ss
   pub leaves : IsAsBefore old new
   pub words : (words : List ℕ) → old.known ≡ Some words → new.known ≡ Some (ticked g words)
 

@@ -44,6 +44,7 @@ fn fetch_from<W: World, S: Store<W>>(
     ensures got { IfOk result (λ r. IsGot pool.now seat.new key r) }
     ensures fetched { IfOk result (λ r. Fetches W.files pool.now seat.old seat.new key r) }
     ensures failed { OnErr result (FailsToFetch W.files pool.now seat.old seat.new key) }
+    ensures unchanged { OnErr result (evictor.new ≡ evictor.old) }
     ensures bytes { IfOk result (λ r. IsHit r.how ⊎ IsContentOf W.files (buffer_key key) scratch.new) }
     ensures reads { IfOk result (λ r. Reads (S.reads store.old) (S.reads store.new) (range_of file key.at key.len) r.how) }
     ensures unread { OnErr result (S.reads store.new ≡ S.reads store.old) }
@@ -119,6 +120,7 @@ pub fn fetch<W: World, S: Store<W>>(
     ensures got { IfOk result (λ r. IsGot (pool_of cache.now) seat.new key r) }
     ensures fetched { IfOk result (λ r. Fetches W.files (pool_of cache.now) seat.old seat.new key r) }
     ensures failed { OnErr result (FailsToFetch W.files (pool_of cache.now) seat.old seat.new key) }
+    ensures unchanged { OnErr result (evictor.new ≡ evictor.old) }
     ensures bytes { IfOk result (λ r. IsHit r.how ⊎ IsContentOf W.files (buffer_key key) scratch.new) }
     ensures reads { IfOk result (λ r. Reads (S.reads store.old) (S.reads store.new) (range_of file key.at key.len) r.how) }
     ensures unread { OnErr result (S.reads store.new ≡ S.reads store.old) }

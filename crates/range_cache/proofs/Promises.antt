@@ -34,6 +34,8 @@ use Rattle.cache_placement.specs.Placements.{HasNoRoom, IsArenaRaced, IsHeaderRa
 use Rattle.cache_placement.specs.Placements as placement
 use Rattle.range_cache.specs.declared.ranged.Grip.TheVariants as grip
 use Rattle.range_cache.specs.declared.ranged.How.TheVariants.{Hit, Filled, Bypass}
+use Rattle.cache_placement.specs.Publications.{publications-append}
+use Rattle.range_cache.specs.Callers.{look_publishes, right_trail}
 use Rattle.range_cache.specs.Exact.{HasNoArena, IsExact, IsFreeWay, IsInNoWay}
 use Rattle.range_cache.specs.Fetches.{IsFailedFetch, IsFetch, IsLost, IsNowhere, IsOfFile, IsWayRaced, Tells}
 
@@ -54,6 +56,8 @@ module _ (files : Option Files) (g : Geometry) (id : ℕ) (key : Key) (ss : List
         tells = tt;
         granted = λ b f there. absurd (no_grant b f (l.only (Granted b f) there));
         opened = λ h b cells there. absurd (no_open h b cells (l.only (Opened h b cells) there));
+        published = look_publishes ss l.only;
+        trail = right_trail files g id key _ v [] ss v w l.right;
         exact = λ words known. let x = l.exact words known in (x.0, x.1, x.3);
       }
 
@@ -65,14 +69,16 @@ module _ (files : Option Files) (g : Geometry) (id : ℕ) (key : Key) (ss : List
         tells = l.tells;
         granted = λ b f there. absurd (no_grant b f (l.only (Granted b f) there));
         opened = λ h b cells there. absurd (no_open h b cells (l.only (Opened h b cells) there));
+        published = look_publishes ss l.only;
+        trail = right_trail files g id key _ v [] ss v w l.right;
         exact = λ words known. l.exact words known;
       }
 
   pub busy_failed : (word : ℕ) → IsLookUp files g id key ss states v w (found.Busy word) → IsFailedFetch files g id key ss v w
-  busy_failed word l = record { right = l.right; only = l.only; leaves = l.leaves; words = λ words known. (l.exact words known).4 }
+  busy_failed word l = record { right = l.right; only = l.only; trail = right_trail files g id key ⊥ v [] ss v w l.right; leaves = l.leaves; words = λ words known. (l.exact words known).4 }
 
   pub missing_failed : IsLookUp files g id key ss states v w found.Missing → IsFailedFetch files g id key ss v w
-  missing_failed l = record { right = l.right; only = l.only; leaves = l.leaves; words = λ words known. (l.exact words known).1 }
+  missing_failed l = record { right = l.right; only = l.only; trail = right_trail files g id key ⊥ v [] ss v w l.right; leaves = l.leaves; words = λ words known. (l.exact words known).1 }
 
 -- ---- a range that was placed
 
@@ -217,6 +223,8 @@ module _ (files : Option Files) (g : Geometry) (id : ℕ) (key : Key) (order : �
         tells = nowhere;
         granted = λ b f there. inl tt;
         opened = λ h b cells there. tt;
+        published = (let sum = publications-append ss ts in let none = look_publishes ss l.only in let one = p.published in omega (arith, sum, none, one));
+        trail = right_trail files g id key ⊥ v [] (ss ++ ts) v w (right_whole ⊥ p.right);
         exact = λ words known. exact_filled words known is pin p;
       }
 
@@ -236,6 +244,8 @@ module _ (files : Option Files) (g : Geometry) (id : ℕ) (key : Key) (order : �
               | inl front ↦ absurd (no_opens h b cells front)
               | inr rest ↦ p.opened h b cells rest
             ];
+        published = (let sum = publications-append ss ts in let none = look_publishes ss l.only in let one = p.published in omega (arith, sum, none, one));
+        trail = right_trail files g id key ⊥ v [] (ss ++ ts) v w (right_whole ⊥ p.right);
         exact = λ words known. exact_why words known is why p;
       }
 

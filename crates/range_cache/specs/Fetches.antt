@@ -1,5 +1,5 @@
 -- What a fetch's answer tells of its steps, what it leaves, and what it reads. Source: this project's own.
-use Rattle.std.specs.Prelude.{◌≡◌, ◌≢◌, ℕ, ◌+◌, ◌<◌, ◌≤◌, List, [], ◌∷◌, ◌⊎◌, Option, Some, IsSomeAnd, slice_index}
+use Rattle.std.specs.Prelude.{◌≡◌, ◌≢◌, ℕ, ◌+◌, ◌<◌, ◌≤◌, List, [], ◌∷◌, ◌++◌, ◌⊎◌, Option, Some, IsSomeAnd, slice_index}
 use Rattle.buffer_word.specs.declared.key_word.Key.{Key}
 use Rattle.outside.specs.declared.file_ref.FileRange.{FileRange}
 use Rattle.outside.specs.declared.file_ref.FileRef.{FileRef}
@@ -24,6 +24,7 @@ use Rattle.cache_placement.specs.declared.why.Why.TheVariants.{NoRoom, Raced, Bu
 use Rattle.cache_placement.specs.Free.{IsOrder}
 use Rattle.cache_placement.specs.Placements.{HasNoRoom, IsArenaRaced, IsHeaderRaced}
 use Rattle.cache_lookup.specs.Sets.{first_way}
+use Rattle.cache_placement.specs.Publications.{publications}
 use Rattle.range_cache.specs.declared.ranged.How.{How}
 use Rattle.range_cache.specs.declared.ranged.How.TheVariants.{Hit, Filled, Bypass}
 use Rattle.range_cache.specs.declared.ranged.Ranged.{Ranged}
@@ -73,12 +74,19 @@ IsFilled Hit = ⊥
 IsFilled Filled = Unit {0}
 IsFilled (Bypass why) = ⊥
 
+-- how many buffers an answer stands for: what was filled was published, and nothing else was
+abbrev pub made_by : How → ℕ
+made_by Hit = 0
+made_by Filled = 1
+made_by (Bypass why) = 0
+
 -- the answer is that the header was lost, by an exchange among these steps
 abbrev pub IsLost : List WordStep → How → Type 0
 IsLost ss how = (header saw : ℕ) × (how ≡ Bypass (Raced saw)) × Among (Missed (State header) saw) ss
 
--- The seat fetched a range by these steps, with that answer. A pin of the key makes it a hit; a grant makes it filled, or the
--- header was lost; and an opening makes it filled. If the seat knows the words, the answer follows from them.
+-- The seat fetched a range by these steps, with that answer, and its trail grew by them and by no others. A pin of the key makes it a
+-- hit; a grant makes it filled, or the header was lost; an opening makes it filled; and one buffer is published where it is filled, and
+-- else none. If the seat knows the words, the answer follows from them.
 pub record IsFetch (files : Option Files) (g : Geometry) (id : ℕ) (key : Key) (ss : List WordStep) (old new : View)
     (ranged : Ranged) : Type 0 where
   pub right : AreRight files g id key (IsHit ranged.how) old [] old ss new
@@ -86,13 +94,16 @@ pub record IsFetch (files : Option Files) (g : Geometry) (id : ℕ) (key : Key) 
   pub tells : Tells g key ss ranged.how
   pub granted : (b : Block) (found : ℕ) → Among (Granted b found) ss → IsFilled ranged.how ⊎ IsLost ss ranged.how
   pub opened : (header : ℕ) (b : Block) (cells : List ℕ) → Among (Opened header b cells) ss → IsFilled ranged.how
+  pub published : publications ss ≡ made_by ranged.how
+  pub trail : new.trail ≡ old.trail ++ events g ss
   pub exact : (words : List ℕ) → old.known ≡ Some words → IsExact g key words new ranged.how
 
--- A fetch whose read failed made loads alone, and counts that it took back: the seat has what it had. If it
--- knows the words, they are as they were.
+-- A fetch whose read failed made loads alone, and counts that it took back, and its trail grew by these: the seat has what it had. If
+-- it knows the words, they are as they were.
 pub record IsFailedFetch (files : Option Files) (g : Geometry) (id : ℕ) (key : Key) (ss : List WordStep) (old new : View) : Type 0 where
   pub right : AreRight files g id key ⊥ old [] old ss new
   pub only : (s : WordStep) → Among s ss → IsLookStep s
+  pub trail : new.trail ≡ old.trail ++ events g ss
   pub leaves : IsAsBefore old new
   pub words : (words : List ℕ) → old.known ≡ Some words → new.known ≡ Some words
 

@@ -12,7 +12,7 @@ use Rattle.cache_placement.specs.Placements.{IsPlacement}
 use Rattle.cache_placement.specs.Steps.{Places}
 use Rattle.cache_placement.proofs.Blocks.{kept_at_start}
 use Rattle.cache_placement.proofs.Knowing.{place_exact}
-use Rattle.cache_placement.proofs.Showing.{place_granted, place_opened, place_released, place_tells}
+use Rattle.cache_placement.proofs.Showing.{place_granted, place_only, place_opened, place_publishes, place_tells}
 use Rattle.cache_placement.proofs.Walks.{place_walk}
 use Rattle.cache_placement.proofs.placing.place.Goals as goal
 
@@ -27,7 +27,8 @@ placed files g id key order first states from until v w r few inside marks p =
         tells = place_tells g key order first states from until few p.0 r p.2;
         granted = place_granted g key order first states from until p.0 r p.2;
         opened = place_opened g key order first states from until p.0 r p.2;
-        unreleased = place_released g key order first states from until p.0 r p.2;
+        only = place_only g key order first states from until p.0 r p.2;
+        published = place_publishes g key order first states from until p.0 r p.2;
         exact = λ words known are. place_exact files g id key order words until few first states from are v w p.0 r known p.1 p.2;
       },
     )

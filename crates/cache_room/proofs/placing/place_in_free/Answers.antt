@@ -1,6 +1,6 @@
 use Rattle.std.proofs.Common.{sym, ◌∙◌}
 use Rattle.buffer_pool.specs.Pools.{seat_id, sizes_of, view}
-use Rattle.cache_room.specs.TriedLaws.{no_releases}
+use Rattle.cache_room.specs.TriedLaws.{place_releases}
 use Rattle.cache_room.proofs.Trials.{at_once, made_behind, quiet_full}
 use Rattle.cache_room.proofs.placing.place_in_free.Goals as goal
 
@@ -17,4 +17,4 @@ returns-in-None-clause-makes g c =
     let sizes = sizes_of c.args.pool.now in
     let quiet = quiet_full files sizes (seat_id c.args.seat.now) c.args.wanted.now 0 c.geometry-arenas.result.arenas p.0 (view c.args.seat.now) (view c.place-placed.new.seat) c.place-placed.result (sym c.unless_full.ensures ∙ c.in-None.is) p.1 in
     made_behind files sizes (seat_id c.args.seat.now) (seat_id c.place-placed.new.seat) c.args.wanted.now (view c.args.seat.now) (view c.place-placed.new.seat) (view c.place_evicting.new.seat) p.0 c.place_evicting.result.evicted c.place_evicting.result.placed
-    c.place-placed.ensures.seat.same quiet (no_releases p.0 p.1.unreleased) c.place_evicting.ensures.makes
+    c.place-placed.ensures.seat.same quiet (place_releases p.0 p.1.only) c.place_evicting.ensures.makes

@@ -1,4 +1,5 @@
 use Rattle.std.proofs.Common.{◌≡◌, ℕ, ◌*◌, ◌^◌, ◌≤◌, List, ◌++◌, sym, subst, ap, ◌∙◌, inr, arith}
+use Rattle.std.proofs.lemmas.Result.{err_from_is_err_and}
 use Rattle.std.specs.Prelude.{Option}
 use Rattle.buffer_word.specs.declared.key_word.Key.{Key}
 use Rattle.pool_model.specs.Content.{Files}
@@ -19,8 +20,8 @@ use Rattle.range_cache.specs.declared.ranged.Grip.TheVariants as grip
 use Rattle.range_cache.specs.declared.ranged.How.TheVariants.{Bypass, Filled}
 use Rattle.range_cache.specs.declared.ranged.Ranged.{Ranged}
 use Rattle.range_cache.specs.Caches.{pool_of}
-use Rattle.range_cache.specs.Fetches.{IsFetch}
-use Rattle.range_cache.proofs.Promises.{busy, bypassed, content_is, filled, hit}
+use Rattle.range_cache.specs.Fetches.{IsFailedFetch, IsFetch}
+use Rattle.range_cache.proofs.Promises.{busy, busy_failed, bypassed, content_is, filled, hit, missing_failed}
 use Rattle.range_cache.proofs.fetching.fetch.Goals as goal
 
 -- the order of the key's length, where it isn't above that of an arena
@@ -82,3 +83,27 @@ returns-in-Bypass-clause-fetched g c =
     as_range g.W.World.files (sizes_of (pool_of c.args.cache.now)) (seat_id c.args.seat.now) c.args.key (view c.args.seat.now) (view c.place.new.seat) c.bypassed-in-Bypass.result _ c.bypassed-in-Bypass.ensures
     (then_bypassed g.W.World.files (sizes_of (pool_of c.args.cache.now)) (seat_id c.args.seat.now) c.args.key c.order_for-order.result c.look_up.new.states (view c.args.seat.now) (view c.look_up.new.seat) (view c.place.new.seat) c.in-Bypass.why
     (order_is (sizes_of (pool_of c.args.cache.now)) c.geometry-geometry.result c.args.key.len c.order_for-order.result c.geometry-geometry.ensures.sizes c.requires.fits c.order_for-order.ensures.holds c.order_for-order.ensures.least) c.in-Missing.ensures.looked p)
+
+pub returns-in_err-read_at-in-Busy-clause-failed : goal.returns-in_err-read_at-in-Busy-clause-failed
+returns-in_err-read_at-in-Busy-clause-failed g c =
+    let files = g.W.World.files in
+    let sizes = sizes_of (pool_of c.args.cache.now) in
+    let id = seat_id c.args.seat.now in
+    let v = view c.args.seat.now in
+    let w = view c.look_up.new.seat in
+    let l = c.in-Busy.ensures.looked in
+    let p = err_from_is_err_and c.from_residual.result c.from_residual.ensures.1 in
+    let failed : (ss : List WordStep) × IsFailedFetch files sizes id c.args.key ss v w = (l.0, busy_failed files sizes id c.args.key l.0 c.look_up.new.states v w c.in-Busy.word l.1) in
+    rw p.1 failed
+
+pub returns-in_err-read_at-in-Missing-clause-failed : goal.returns-in_err-read_at-in-Missing-clause-failed
+returns-in_err-read_at-in-Missing-clause-failed g c =
+    let files = g.W.World.files in
+    let sizes = sizes_of (pool_of c.args.cache.now) in
+    let id = seat_id c.args.seat.now in
+    let v = view c.args.seat.now in
+    let w = view c.look_up.new.seat in
+    let l = c.in-Missing.ensures.looked in
+    let p = err_from_is_err_and c.from_residual-in_err-read_at-in-Missing.result c.from_residual-in_err-read_at-in-Missing.ensures.1 in
+    let failed : (ss : List WordStep) × IsFailedFetch files sizes id c.args.key ss v w = (l.0, missing_failed files sizes id c.args.key l.0 c.look_up.new.states v w l.1) in
+    rw p.1 failed
