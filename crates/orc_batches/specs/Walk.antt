@@ -5,7 +5,7 @@ use Rattle.outside.specs.Cause.{Cause}
 use Rattle.outside.specs.Feed.{Taken}
 use Rattle.orc_values.specs.declared.value.Value.{Value}
 use Rattle.orc_columns.specs.declared.fault.ColumnFault.{ColumnFault}
-use Rattle.orc_columns.specs.declared.fault.ColumnFault.TheVariants.{BadEncoding, Run, NegativeLength, LengthsPastData, IndexOutOfDictionary, Read, NoMemory}
+use Rattle.orc_columns.specs.declared.fault.ColumnFault.TheVariants.{NoMemory}
 use Rattle.orc_columns.specs.declared.plan.ColumnPlan.{ColumnPlan}
 use Rattle.orc_columns.specs.Column.{Streams, Fails}
 use Rattle.orc_columns.specs.Draws.{FailedToRead, Decided}
@@ -45,14 +45,8 @@ WalkCuts plans rows batches (Err fault) = AllWhole (kinds_of plans) batches × (
 
 -- the consumer took so, unless memory was refused
 abbrev pub Eaten : {Y : Type 0} → Type 0 → Result Y ColumnFault → Type 0
-Eaten Ate (Ok y) = Ate
-Eaten Ate (Err (Read failed)) = Ate
 Eaten Ate (Err NoMemory) = Unit {0}
-Eaten Ate (Err BadEncoding) = Ate
-Eaten Ate (Err (Run name fault)) = Ate
-Eaten Ate (Err NegativeLength) = Ate
-Eaten Ate (Err LengthsPastData) = Ate
-Eaten Ate (Err IndexOutOfDictionary) = Ate
+Eaten Ate answer = Ate
 
 module _ {F : Type 0} (rest : F → ℕ → Option (List ℕ)) where
   -- behind so many rows, those of the batches were given, or one of the columns is refused

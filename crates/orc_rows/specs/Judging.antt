@@ -6,7 +6,7 @@ use Rattle.outside.specs.Feed.{Taken}
 use Rattle.outside.specs.Files.{Files, HasBytes}
 use Rattle.orc_values.specs.Column.{RowValues}
 use Rattle.orc_columns.specs.declared.fault.ColumnFault.{ColumnFault}
-use Rattle.orc_columns.specs.declared.fault.ColumnFault.TheVariants.{BadEncoding, Run, NegativeLength, LengthsPastData, IndexOutOfDictionary, Read, NoMemory}
+use Rattle.orc_columns.specs.declared.fault.ColumnFault.TheVariants.{Read, NoMemory}
 use Rattle.orc_columns.specs.Batches.{HoldsNoRead}
 use Rattle.orc_columns.specs.Turns.{InTurn, judged_streams}
 use Rattle.orc_tail.specs.declared.stripe_footer.StripeFooter.{StripeFooter}
@@ -23,13 +23,9 @@ use Rattle.orc_rows.specs.Starting.{layouts_in}
 
 -- the content's own fault: neither a failed read nor want of memory
 abbrev pub IsContent : ColumnFault → Type 0
-IsContent BadEncoding = Unit {0}
-IsContent (Run name fault) = HoldsNoRead (Run name fault)
-IsContent NegativeLength = Unit {0}
-IsContent LengthsPastData = Unit {0}
-IsContent IndexOutOfDictionary = Unit {0}
 IsContent (Read failed) = ⊥
 IsContent NoMemory = ⊥
+IsContent fault = HoldsNoRead fault
 
 -- the column has values in so many rows, or this condition refuses it
 abbrev pub FindsOne : List ℕ → ColumnLayout → ℕ → Option ColumnFault → Type 0

@@ -4,7 +4,6 @@ use Rattle.orc_proto.specs.declared.fault.WireFault.{WireFault}
 use Rattle.orc_proto.specs.Message.{Entry}
 use Rattle.orc_tail.specs.declared.fault.TailFault.{TailFault}
 use Rattle.orc_tail.specs.declared.fault.TailFault.TheVariants.{Wire, NoMemory}
-use Rattle.orc_tail.specs.declared.fault.TailFault.TheVariants as fault
 
 infixl 10 ◌>>=◌
 abbrev pub ◌>>=◌ : {A B : Type 0} → Result A TailFault → (A → Result B TailFault) → Result B TailFault
@@ -33,16 +32,7 @@ behind front (Err e) = Err e
 -- a fault that isn't want of memory is the one that reading gives
 abbrev pub Fails : {Y : Type 0} → TailFault → Result Y TailFault → Type 0
 Fails NoMemory read = Unit {0}
-Fails fault.TooShort read = read ≡ Err fault.TooShort
-Fails fault.NotOrc read = read ≡ Err fault.NotOrc
-Fails (fault.Compressed k) read = read ≡ Err (fault.Compressed k)
-Fails (Wire e) read = read ≡ Err (Wire e)
-Fails fault.OutOfFile read = read ≡ Err fault.OutOfFile
-Fails fault.BadTypes read = read ≡ Err fault.BadTypes
-Fails fault.TooLarge read = read ≡ Err fault.TooLarge
-Fails fault.RootPresent read = read ≡ Err fault.RootPresent
-Fails fault.StreamOutOfStripe read = read ≡ Err fault.StreamOutOfStripe
-Fails (fault.Read e) read = read ≡ Err (fault.Read e)
+Fails fault read = read ≡ Err fault
 
 -- What a call that takes memory answers, seen by `view`, is what reading gives, unless memory was refused.
 abbrev pub Gives : {X Y : Type 0} → (X → Y) → Result X TailFault → Result Y TailFault → Type 0

@@ -16,17 +16,9 @@ use Rattle.orc_tail.specs.StripeFooter.{footer_at, stripe_footer}
 
 -- how a reading call with this fault ended
 abbrev pub ending : TailFault → Ending
-ending fault.TooShort = decided
-ending fault.NotOrc = decided
-ending (fault.Compressed kind) = decided
-ending (fault.Wire wire) = decided
-ending fault.OutOfFile = decided
-ending fault.BadTypes = decided
-ending fault.TooLarge = decided
-ending fault.RootPresent = decided
-ending fault.StreamOutOfStripe = decided
 ending (fault.Read failed) = read_failed
 ending fault.NoMemory = refused
+ending fault = decided
 
 -- a file's last bytes, which hold the PostScript: 256, or all where there are fewer
 abbrev pub end_len : ℕ → ℕ

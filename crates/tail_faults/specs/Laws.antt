@@ -10,31 +10,18 @@ use Rattle.orc_tail.specs.StripeFooter.{stripe_footer}
 -- one of the conditions of a stripe's footer: a message is broken, the streams pass the stripe's end, or the root has a PRESENT
 -- stream with bytes
 abbrev pub IsFooterFault : TailFault → Type 0
-IsFooterFault fault.TooShort = ⊥
-IsFooterFault fault.NotOrc = ⊥
-IsFooterFault (fault.Compressed kind) = ⊥
 IsFooterFault (fault.Wire wire) = Unit {0}
-IsFooterFault fault.OutOfFile = ⊥
-IsFooterFault fault.BadTypes = ⊥
-IsFooterFault fault.TooLarge = ⊥
 IsFooterFault fault.RootPresent = Unit {0}
 IsFooterFault fault.StreamOutOfStripe = Unit {0}
-IsFooterFault (fault.Read failed) = ⊥
-IsFooterFault fault.NoMemory = ⊥
+IsFooterFault why = ⊥
 
 -- one of the conditions of a tail
 abbrev pub IsTailFault : TailFault → Type 0
-IsTailFault fault.TooShort = Unit {0}
-IsTailFault fault.NotOrc = Unit {0}
-IsTailFault (fault.Compressed kind) = Unit {0}
-IsTailFault (fault.Wire wire) = Unit {0}
-IsTailFault fault.OutOfFile = Unit {0}
-IsTailFault fault.BadTypes = Unit {0}
-IsTailFault fault.TooLarge = Unit {0}
 IsTailFault fault.RootPresent = ⊥
 IsTailFault fault.StreamOutOfStripe = ⊥
 IsTailFault (fault.Read failed) = ⊥
 IsTailFault fault.NoMemory = ⊥
+IsTailFault why = Unit {0}
 
 abbrev pub StripeFootersHaveThreeFaults : Type 0
 StripeFootersHaveThreeFaults = (file : List ℕ) (stripe : Stripe) (why : TailFault) → stripe_footer file stripe ≡ Err why → IsFooterFault why
