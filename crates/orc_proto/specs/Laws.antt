@@ -26,7 +26,9 @@ abbrev pub ReadIsPacked : Type 0
 ReadIsPacked = (bytes : List ℕ) (numbers : List ℕ) → numbers_of bytes ≡ all_read numbers → PackedNumbers bytes numbers
 
 -- bytes that break have whole items in front, and the fault of the item after them, whose place is their length
-pub record BreaksAfter {X : Type 0} (Spells : List ℕ → X → Type 0) (item_at : ℕ → List ℕ → Result (X × List ℕ) WireFault) (bytes : List ℕ) (items : List X) (fault : WireFault) : Type 0 where
+pub record BreaksAfter {X : Type 0} (Spells : List ℕ → X → Type 0)
+    (item_at : ℕ → List ℕ → Result (X × List ℕ) WireFault) (bytes : List ℕ) (items : List X)
+    (fault : WireFault) : Type 0 where
   pub front : List ℕ
   pub rest : List ℕ
   pub joined : bytes ≡ front ++ rest
@@ -35,9 +37,11 @@ pub record BreaksAfter {X : Type 0} (Spells : List ℕ → X → Type 0) (item_a
   pub goes_on : 1 ≤ length rest
 
 -- the answers are all items, or items and then one fault
-pub data Outcome {X : Type 0} (Spells : List ℕ → X → Type 0) (item_at : ℕ → List ℕ → Result (X × List ℕ) WireFault) (bytes : List ℕ) (answers : List (Result X WireFault)) : Type 0 where
+pub data Outcome {X : Type 0} (Spells : List ℕ → X → Type 0) (item_at : ℕ → List ℕ → Result (X × List ℕ) WireFault)
+    (bytes : List ℕ) (answers : List (Result X WireFault)) : Type 0 where
   whole : (items : List X) → Joins Spells bytes items → answers ≡ all_read items → Outcome Spells item_at bytes answers
-  broken : (items : List X) (fault : WireFault) → BreaksAfter Spells item_at bytes items fault → answers ≡ all_read items ++ Err fault ∷ [] → Outcome Spells item_at bytes answers
+  broken : (items : List X) (fault : WireFault) → BreaksAfter Spells item_at bytes items fault
+      → answers ≡ all_read items ++ Err fault ∷ [] → Outcome Spells item_at bytes answers
 
 abbrev pub EachMessageEndsOrBreaks : Type 0
 EachMessageEndsOrBreaks = (bytes : List ℕ) → Outcome SpellsField field_at bytes (fields_of bytes)
@@ -47,15 +51,18 @@ EachPackedEndsOrBreaks = (bytes : List ℕ) → Outcome SpellsVarint varint_at b
 
 -- a varint is read as its number, whatever follows it
 abbrev pub VarintsAreRead : Type 0
-VarintsAreRead = (place : ℕ) (bytes rest : List ℕ) (value : ℕ) → SpellsVarint bytes value → varint_at place (bytes ++ rest) ≡ Ok (value, rest)
+VarintsAreRead = (place : ℕ) (bytes rest : List ℕ) (value : ℕ) → SpellsVarint bytes value
+    → varint_at place (bytes ++ rest) ≡ Ok (value, rest)
 
 -- bytes that all have their top bit set are a varint that is cut, while they are fewer than ten ..
 abbrev pub OpenBytesAreTruncated : Type 0
-OpenBytesAreTruncated = (place : ℕ) (bytes : List ℕ) → AllByRecursion (λ b. 128 ≤ b) bytes → length bytes < 10 → varint_at place bytes ≡ Err (Truncated place)
+OpenBytesAreTruncated = (place : ℕ) (bytes : List ℕ) → AllByRecursion (λ b. 128 ≤ b) bytes → length bytes < 10
+    → varint_at place bytes ≡ Err (Truncated place)
 
 -- .. and ten of them are a long varint, whatever follows
 abbrev pub TenOpenBytesAreLong : Type 0
-TenOpenBytesAreLong = (place : ℕ) (bytes rest : List ℕ) → AllByRecursion (λ b. 128 ≤ b) bytes → length bytes ≡ 10 → varint_at place (bytes ++ rest) ≡ Err (LongVarint place)
+TenOpenBytesAreLong = (place : ℕ) (bytes rest : List ℕ) → AllByRecursion (λ b. 128 ≤ b) bytes → length bytes ≡ 10
+    → varint_at place (bytes ++ rest) ≡ Err (LongVarint place)
 
 -- the shortest varint of a number is a varint of it, and none is shorter
 abbrev pub ShortestSpells : Type 0

@@ -18,7 +18,8 @@ abbrev pub ◌>>=◌ : {A B : Type 0} → Result A WireFault → (A → Result B
 unfoldable pub groups_at : ℕ → ℕ → List ℕ → Result (ℕ × List ℕ) WireFault
 groups_at zero place left = Err (LongVarint place)
 groups_at (suc room) place [] = Err (Truncated place)
-groups_at (suc room) place (b ∷ left) = if nat_lt b 128 then Ok (b, left) else (groups_at room place left >>= λ high. Ok (b % 128 + 128 * high.0, high.1))
+groups_at (suc room) place (b ∷ left) =
+    if nat_lt b 128 then Ok (b, left) else (groups_at room place left >>= λ high. Ok (b % 128 + 128 * high.0, high.1))
 
 -- a varint, and what follows it
 unfoldable pub varint_at : ℕ → List ℕ → Result (ℕ × List ℕ) WireFault
@@ -62,7 +63,8 @@ item_then (Err e) others = Err e ∷ []
 unfoldable pub items_within : {X : Type 0} → ℕ → (ℕ → List ℕ → Result (X × List ℕ) WireFault) → ℕ → List ℕ → List (Result X WireFault)
 items_within zero item_at total left = []
 items_within (suc steps) item_at total [] = []
-items_within (suc steps) item_at total (b ∷ left) = item_then (item_at (total - length (b ∷ left)) (b ∷ left)) (λ others. items_within steps item_at total others)
+items_within (suc steps) item_at total (b ∷ left) =
+    item_then (item_at (total - length (b ∷ left)) (b ∷ left)) (λ others. items_within steps item_at total others)
 
 -- what is still to come of a message
 abbrev pub fields_left : ℕ → List ℕ → List (Result Entry WireFault)

@@ -96,10 +96,12 @@ EncodingsAreRead = (bytes : List ℕ) (fields : List Entry) → Message bytes fi
 
 -- The first broken message by its place: the fields in front of it were read, and then the bytes are no message, or what a
 -- field holds is refused.
-pub data FirstBroken {S : Type 0} (step : S → Entry → Result S TailFault) (start : S) (items : List (Result Entry WireFault)) (fault : TailFault) : Type 0 where
+pub data FirstBroken {S : Type 0} (step : S → Entry → Result S TailFault) (start : S)
+    (items : List (Result Entry WireFault)) (fault : TailFault) : Type 0 where
   wire : (front : List Entry) (rest : List (Result Entry WireFault)) (state : S) (e : WireFault) → items ≡ all_read front ++ Err e ∷ rest
       → fields_from step start (all_read front) ≡ Ok state → fault ≡ Wire e → FirstBroken step start items fault
-  inside : (front : List Entry) (field : Entry) (rest : List (Result Entry WireFault)) (state : S) → items ≡ all_read front ++ Ok field ∷ rest
+  inside : (front : List Entry) (field : Entry) (rest : List (Result Entry WireFault)) (state : S)
+      → items ≡ all_read front ++ Ok field ∷ rest
       → fields_from step start (all_read front) ≡ Ok state → step state field ≡ Err fault → FirstBroken step start items fault
 
 abbrev pub TypesBreakFirst : Type 0

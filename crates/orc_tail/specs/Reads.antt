@@ -54,8 +54,11 @@ range_plan file at len bytes = reading file at len (known (Ok (slice_range bytes
 
 -- the place of the footer, by the last bytes alone
 abbrev pub span_plan : FileRef → List ℕ → Plan Span TailFault
-span_plan file bytes = reading file (end_at file.len) (end_len file.len) (known (footer_span file.len (slice_range bytes (end_at file.len) (end_at file.len + end_len file.len))))
+span_plan file bytes =
+    reading file (end_at file.len) (end_len file.len)
+    (known (footer_span file.len (slice_range bytes (end_at file.len) (end_at file.len + end_len file.len))))
 
 -- the tail, by the footer alone
 abbrev pub footer_plan : FileRef → Span → List ℕ → Plan Tail TailFault
-footer_plan file span bytes = reading file span.at span.len (known (tail_of_footer file.len (slice_range bytes span.at (span.at + span.len))))
+footer_plan file span bytes =
+    reading file span.at span.len (known (tail_of_footer file.len (slice_range bytes span.at (span.at + span.len))))

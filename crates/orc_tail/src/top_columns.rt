@@ -59,7 +59,8 @@ fn children(
     requires few { length types.now ≤ 2 ^ 32 }
     requires types { (k : ℕ) → k < length numbers.now → slice_index numbers.now k < length types.now }
     requires named { length numbers.now ≡ length names.now }
-    ensures { IfOk result (λ columns. columns.items ≡ children_of (map type_view types.now) numbers.now (map (λ name. name.now) names.now)) }
+    ensures { IfOk result (λ columns. columns.items
+        ≡ children_of (map type_view types.now) numbers.now (map (λ name. name.now) names.now)) }
 {
     let mut columns = Vec::new(alloc);
     for i in 0..numbers.len() {

@@ -30,9 +30,11 @@ none_differ i j d before below = absurd (omega (arith, below))
 files_are_files : AreFiles told_files
 files_are_files = record {
   few = omega arith;
-  distinct = AllPairs-cons Differ first_file (second_file ∷ []) (All-cons (Differ first_file) second_file [] names_differ (All-nil (Differ first_file)))
+  distinct = AllPairs-cons Differ first_file (second_file ∷ [])
+      (All-cons (Differ first_file) second_file [] names_differ (All-nil (Differ first_file)))
       (AllPairs-cons Differ second_file [] (All-nil (Differ second_file)) none_differ);
-  bytes = All-cons HoldsBytes first_file (second_file ∷ []) first_bytes (All-cons HoldsBytes second_file [] second_bytes (All-nil HoldsBytes));
+  bytes = All-cons HoldsBytes first_file (second_file ∷ []) first_bytes
+      (All-cons HoldsBytes second_file [] second_bytes (All-nil HoldsBytes));
 }
 
 pub told_are_files : (told : Files) → Some told_files ≡ Some told → AreFiles told
