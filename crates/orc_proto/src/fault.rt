@@ -7,7 +7,7 @@
 /// order: the key as a varint, its number, its wire type, the value.
 ///
 /// Source: the protocol buffers' wire format; groups are refused, as this project's own rule.
-#[derive(Clone, Copy, Debug, PartialEq, Eq)]
+#[derive(Clone, Copy, PartialEq, Eq)]
 pub enum WireFault {
     /// The bytes end inside a key, a length, a varint or a value.
     Truncated(u64),

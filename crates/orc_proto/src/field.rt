@@ -1,7 +1,7 @@
 //! A field of a message.
 
 /// A field's value, as its wire type says.
-#[derive(Clone, Copy, Debug, PartialEq, Eq)]
+#[derive(Clone, Copy, PartialEq, Eq)]
 pub enum FieldValue<'a> {
     /// Wire type 0: a varint's low 64 bits.
     Varint(u64),
@@ -14,7 +14,7 @@ pub enum FieldValue<'a> {
 }
 
 /// A field of a message: its number, 1 to 536,870,911, and its value.
-#[derive(Clone, Copy, Debug, PartialEq, Eq)]
+#[derive(Clone, Copy, PartialEq, Eq)]
 pub struct Field<'a> {
     /// The number by which the message's schema names the field.
     pub number: u32,

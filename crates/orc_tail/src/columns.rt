@@ -11,7 +11,7 @@ use std::marker::Model;
 /// 10 LIST, 11 MAP, 12 STRUCT, 13 UNION, 14 DECIMAL, 15 DATE, 16 VARCHAR, 17 CHAR; others may stand.
 ///
 /// Source: Apache ORC specification v1, "Type Information".
-#[derive(Debug, Drop)]
+#[derive(Drop)]
 pub struct TopColumn {
     /// The number of its type.
     pub number: u32,
@@ -22,7 +22,7 @@ pub struct TopColumn {
 }
 
 /// The columns of a file, in order. A contract sees them as a list.
-#[derive(Debug, Drop)]
+#[derive(Drop)]
 pub struct TopColumns {
     items: Vec<TopColumn>,
 }

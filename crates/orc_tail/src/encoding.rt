@@ -12,7 +12,7 @@ use std::marker::Model;
 /// The encoding of a column: 0 DIRECT, 1 DICTIONARY, 2 DIRECT_V2, 3 DICTIONARY_V2.
 ///
 /// Source: Apache ORC specification v1, "Stripe Footer", `ColumnEncoding`.
-#[derive(Clone, Copy, Debug, PartialEq, Eq)]
+#[derive(Clone, Copy, PartialEq, Eq)]
 pub struct Encoding {
     /// The encoding's number.
     pub kind: u64,
@@ -48,7 +48,7 @@ pub(crate) fn read_encoding(bytes: &[u8]) -> Result<Encoding, TailFault>
 }
 
 /// The encodings of a stripe, that of type 0 first. A contract sees them as a list.
-#[derive(Debug, Drop)]
+#[derive(Drop)]
 pub struct Encodings {
     items: Vec<Encoding>,
 }

@@ -11,7 +11,7 @@ use std::alloc::{AllocError, AllocFailed};
 ///
 /// Source: Apache ORC specification v1, "File Tail" and "Stripe Footer"; the conditions and their order are
 /// this project's own.
-#[derive(Clone, Copy, Debug, PartialEq, Eq)]
+#[derive(Clone, Copy, PartialEq, Eq)]
 pub enum TailFault {
     /// The file is empty, or shorter than its PostScript and the byte with the PostScript's length.
     TooShort,

@@ -21,7 +21,7 @@ const MOST_STRIPES: usize = 1_000_000;
 /// What this project uses of a footer.
 ///
 /// Source: Apache ORC specification v1, "Footer".
-#[derive(Debug, Drop)]
+#[derive(Drop)]
 struct Footer<'a> {
     stripes: Vec<Stripe>,
     types: Vec<ColumnType<'a>>,

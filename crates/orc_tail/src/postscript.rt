@@ -16,7 +16,7 @@ pub(crate) const LAST_BYTES: u64 = 256;
 /// What this project uses of a PostScript.
 ///
 /// Source: Apache ORC specification v1, "Postscript".
-#[derive(Clone, Copy, Debug, PartialEq, Eq)]
+#[derive(Clone, Copy)]
 pub(crate) struct PostScript {
     pub(crate) footer_length: u64,
     pub(crate) compression: u64,
@@ -24,7 +24,7 @@ pub(crate) struct PostScript {
 }
 
 /// A range of a file: its place, counted from the file's first byte, and its bytes.
-#[derive(Clone, Copy, Debug, PartialEq, Eq)]
+#[derive(Clone, Copy)]
 pub(crate) struct Span {
     pub(crate) at: u64,
     pub(crate) len: u64,

@@ -12,7 +12,7 @@ use std::marker::Model;
 /// A stream as a stripe footer spells it, whose place follows from the streams before it.
 ///
 /// Source: Apache ORC specification v1, "Stripe Footer", `Stream`.
-#[derive(Clone, Copy, Debug, PartialEq, Eq)]
+#[derive(Clone, Copy)]
 pub(crate) struct Stream {
     pub(crate) kind: u64,
     pub(crate) column: u64,
@@ -63,7 +63,7 @@ pub(crate) fn read_stream(bytes: &[u8]) -> Result<Stream, TailFault>
 /// 7 BLOOM_FILTER, 8 BLOOM_FILTER_UTF8.
 ///
 /// Source: Apache ORC specification v1, "Stripe Footer".
-#[derive(Clone, Copy, Debug, PartialEq, Eq)]
+#[derive(Clone, Copy, PartialEq, Eq)]
 pub struct StreamRange {
     /// The kind's number.
     pub kind: u64,
@@ -76,7 +76,7 @@ pub struct StreamRange {
 }
 
 /// The streams of a stripe, in the order in which they lie. A contract sees them as a list.
-#[derive(Debug, Drop)]
+#[derive(Drop)]
 pub struct Streams {
     items: Vec<StreamRange>,
 }

@@ -74,7 +74,7 @@ pub(crate) fn read_stripe(bytes: &[u8]) -> Result<Stripe, TailFault>
 }
 
 /// The stripes of a file, in order. A contract sees them as a list.
-#[derive(Debug, Drop)]
+#[derive(Drop)]
 pub struct Stripes {
     items: Vec<Stripe>,
 }

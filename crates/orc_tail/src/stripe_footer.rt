@@ -17,7 +17,7 @@ use std::alloc::Global;
 /// What a stripe's footer says: where its streams lie, and how its columns are spelled.
 ///
 /// Source: Apache ORC specification v1, "Stripe Footer".
-#[derive(Debug, Drop)]
+#[derive(Drop)]
 pub struct StripeFooter {
     /// The streams, in the order in which they lie.
     pub streams: Streams,
@@ -42,7 +42,7 @@ fn find_stream(streams: &[StreamRange], kind: u64, column: u64) -> Option<&Strea
 }
 
 /// The streams and encodings of a stripe footer, as it spells them.
-#[derive(Debug, Drop)]
+#[derive(Drop)]
 struct FooterParts {
     streams: Vec<Stream>,
     encodings: Vec<Encoding>,

@@ -9,7 +9,7 @@ use crate::stripe::Stripes;
 /// What a file's tail says: where its stripes lie, and which columns its rows have.
 ///
 /// Source: Apache ORC specification v1, "File Tail".
-#[derive(Debug, Drop)]
+#[derive(Drop)]
 pub struct Tail {
     /// The stripes, in order.
     pub stripes: Stripes,

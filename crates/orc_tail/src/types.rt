@@ -14,7 +14,7 @@ use std::alloc::Global;
 /// A type: its kind, and its children's type numbers and names. The names stay in the footer's bytes.
 ///
 /// Source: Apache ORC specification v1, "Type Information".
-#[derive(Debug, Drop)]
+#[derive(Drop)]
 pub(crate) struct ColumnType<'a> {
     pub(crate) kind: u64,
     pub(crate) subtypes: Vec<u64>,
