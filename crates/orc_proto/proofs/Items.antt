@@ -7,8 +7,8 @@ use Rattle.orc_proto.specs.Laws.{all_read, Outcome, whole, broken}
 
 -- an item is read as it is spelled, what is read is spelled so, and a spelling has a byte
 pub record Reads {X : Type 0} (Spells : List ℕ → X → Type 0) (item_at : ℕ → List ℕ → Result (X × List ℕ) WireFault) : Type 0 where
-  pub again : (place : ℕ) (spelling rest : List ℕ) (x : X) → Spells spelling x → item_at place (spelling ++ rest) ≡ Ok (x, rest)
-  pub found : (place : ℕ) (left : List ℕ) (x : X) (rest : List ℕ) → item_at place left ≡ Ok (x, rest) → (spelling : List ℕ) × Spells spelling x × (left ≡ spelling ++ rest)
+  pub again : (offset : ℕ) (spelling rest : List ℕ) (x : X) → Spells spelling x → item_at offset (spelling ++ rest) ≡ Ok (x, rest)
+  pub found : (offset : ℕ) (left : List ℕ) (x : X) (rest : List ℕ) → item_at offset left ≡ Ok (x, rest) → (spelling : List ℕ) × Spells spelling x × (left ≡ spelling ++ rest)
   pub has_bytes : (spelling : List ℕ) (x : X) → Spells spelling x → 1 ≤ length spelling
 
 items-step : {X : Type 0} (item_at : ℕ → List ℕ → Result (X × List ℕ) WireFault) (steps total : ℕ) (left : List ℕ) → 1 ≤ length left
@@ -23,10 +23,10 @@ items-nil item_at zero total = refl
 items-nil item_at (suc steps) total = refl
 
 -- what is left after an item is shorter
-pub shorter : {X : Type 0} (Spells : List ℕ → X → Type 0) (item_at : ℕ → List ℕ → Result (X × List ℕ) WireFault) → Reads Spells item_at → (place : ℕ) (left : List ℕ) (x : X) (rest : List ℕ)
-    → item_at place left ≡ Ok (x, rest) → length rest < length left
-shorter Spells item_at reads place left x rest e =
-    let found = reads.found place left x rest e in
+pub shorter : {X : Type 0} (Spells : List ℕ → X → Type 0) (item_at : ℕ → List ℕ → Result (X × List ℕ) WireFault) → Reads Spells item_at → (offset : ℕ) (left : List ℕ) (x : X) (rest : List ℕ)
+    → item_at offset left ≡ Ok (x, rest) → length rest < length left
+shorter Spells item_at reads offset left x rest e =
+    let found = reads.found offset left x rest e in
     omega (arith, reads.has_bytes found.0 x found.1, ap length found.2, length-append found.0 rest)
 
 then_same : {X : Type 0} (read : Result (X × List ℕ) WireFault) (f g : List ℕ → List (Result X WireFault)) → ((x : X) (rest : List ℕ) → read ≡ Ok (x, rest) → f rest ≡ g rest) → item_then read f ≡ item_then read g
@@ -129,8 +129,8 @@ outcome_of : {X : Type 0} (Spells : List ℕ → X → Type 0) (item_at : ℕ �
     → Ends Spells item_at (length bytes) bytes → Outcome Spells item_at bytes (items_within (length bytes) item_at (length bytes) bytes)
 outcome_of Spells item_at bytes (ends_whole items joins answers) = whole items joins answers
 outcome_of Spells item_at bytes (ends_broken items fault at answers) =
-    let place : length bytes - length at.rest ≡ length at.front = omega (arith, ap length at.joined, length-append at.front at.rest) in
-    broken items fault (record { front = at.front; rest = at.rest; joined = at.joined; whole = at.whole; breaks = rw (← place) at.breaks; goes_on = at.goes_on }) answers
+    let offset : length bytes - length at.rest ≡ length at.front = omega (arith, ap length at.joined, length-append at.front at.rest) in
+    broken items fault (record { front = at.front; rest = at.rest; joined = at.joined; whole = at.whole; breaks = rw (← offset) at.breaks; goes_on = at.goes_on }) answers
 
 pub all_end : {X : Type 0} (Spells : List ℕ → X → Type 0) (item_at : ℕ → List ℕ → Result (X × List ℕ) WireFault) → Reads Spells item_at → (bytes : List ℕ)
     → Outcome Spells item_at bytes (items_within (length bytes) item_at (length bytes) bytes)

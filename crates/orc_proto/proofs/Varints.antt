@@ -20,11 +20,11 @@ pub IsClosed-cons : (b : ℕ) (bs : List ℕ) → 128 ≤ b → IsClosed bs → 
 IsClosed-cons b [] large closed = absurd closed
 IsClosed-cons b (c ∷ bs) large closed = (large, closed)
 
-pub groups_taken : (room place : ℕ) (left : List ℕ) (number : ℕ) (rest : List ℕ) → groups_at room place left ≡ Ok (number, rest) → IsTaken room left number rest
+pub groups_taken : (room offset : ℕ) (left : List ℕ) (number : ℕ) (rest : List ℕ) → groups_at room offset left ≡ Ok (number, rest) → IsTaken room left number rest
 unfolding groups_at
-groups_taken zero place left number rest e = absurd cc
-groups_taken (suc room) place [] number rest e = absurd cc
-groups_taken (suc room) place (b ∷ left) number rest e =
+groups_taken zero offset left number rest e = absurd cc
+groups_taken (suc room) offset [] number rest e = absurd cc
+groups_taken (suc room) offset (b ∷ left) number rest e =
     elim (cases_lt b 128) [
       | inl small ↦
           let one = rw (lt-ltb b 128 small) at e in
@@ -34,8 +34,8 @@ groups_taken (suc room) place (b ∷ left) number rest e =
           record { spelling = b ∷ []; closed = small; short = omega arith; number_is = omega arith; joined = ap (λ (xs : List ℕ). b ∷ xs) r }
       | inr large ↦
           let one = rw (le-ltb b 128 large) at e in
-          let high = both_read (groups_at room place left) (λ x. Ok (b % 128 + 128 * x.0, x.1)) (number, rest) one in
-          let taken = groups_taken room place left high.0.0 high.0.1 high.1 in
+          let high = both_read (groups_at room offset left) (λ x. Ok (b % 128 + 128 * x.0, x.1)) (number, rest) one in
+          let taken = groups_taken room offset left high.0.0 high.0.1 high.1 in
           let same = same_read (b % 128 + 128 * high.0.0, high.0.1) (number, rest) high.2 in
           let n : b % 128 + 128 * high.0.0 ≡ number = ap (λ (p : ℕ × List ℕ). p.0) same in
           let r : high.0.1 ≡ rest = ap (λ (p : ℕ × List ℕ). p.1) same in
@@ -48,22 +48,22 @@ groups_taken (suc room) place (b ∷ left) number rest e =
           }
     ]
 
-pub groups_again : (room place : ℕ) (spelling rest : List ℕ) → IsClosed spelling → length spelling ≤ room → groups_at room place (spelling ++ rest) ≡ Ok (groups spelling, rest)
+pub groups_again : (room offset : ℕ) (spelling rest : List ℕ) → IsClosed spelling → length spelling ≤ room → groups_at room offset (spelling ++ rest) ≡ Ok (groups spelling, rest)
 unfolding groups_at
-groups_again room place [] rest closed short = absurd closed
-groups_again zero place (b ∷ bs) rest closed short = absurd (omega arith)
-groups_again (suc room) place (b ∷ []) rest closed short =
+groups_again room offset [] rest closed short = absurd closed
+groups_again zero offset (b ∷ bs) rest closed short = absurd (omega arith)
+groups_again (suc room) offset (b ∷ []) rest closed short =
     let low : b ≡ b % 128 + 128 * 0 = omega arith in
     rw (lt-ltb b 128 closed) (ap (λ (n : ℕ). Ok (n, rest)) low)
-groups_again (suc room) place (b ∷ c ∷ bs) rest closed short =
-    let others = groups_again room place (c ∷ bs) rest closed.1 (omega arith) in
+groups_again (suc room) offset (b ∷ c ∷ bs) rest closed short =
+    let others = groups_again room offset (c ∷ bs) rest closed.1 (omega arith) in
     rw (le-ltb b 128 closed.0, others) refl
 
-pub varint_found : (place : ℕ) (left : List ℕ) (value : ℕ) (rest : List ℕ) → varint_at place left ≡ Ok (value, rest) → (spelling : List ℕ) × SpellsVarint spelling value × (left ≡ spelling ++ rest)
+pub varint_found : (offset : ℕ) (left : List ℕ) (value : ℕ) (rest : List ℕ) → varint_at offset left ≡ Ok (value, rest) → (spelling : List ℕ) × SpellsVarint spelling value × (left ≡ spelling ++ rest)
 unfolding varint_at
-varint_found place left value rest e =
-    let all = both_read (groups_at 10 place left) (λ x. Ok (x.0 % 2 ^ 64, x.1)) (value, rest) e in
-    let taken = groups_taken 10 place left all.0.0 all.0.1 all.1 in
+varint_found offset left value rest e =
+    let all = both_read (groups_at 10 offset left) (λ x. Ok (x.0 % 2 ^ 64, x.1)) (value, rest) e in
+    let taken = groups_taken 10 offset left all.0.0 all.0.1 all.1 in
     let same = same_read (all.0.0 % 2 ^ 64, all.0.1) (value, rest) all.2 in
     let n : all.0.0 % 2 ^ 64 ≡ value = ap (λ (p : ℕ × List ℕ). p.0) same in
     let r : all.0.1 ≡ rest = ap (λ (p : ℕ × List ℕ). p.1) same in (
@@ -72,32 +72,32 @@ varint_found place left value rest e =
       taken.joined ∙ ap (λ (xs : List ℕ). taken.spelling ++ xs) r,
     )
 
-pub varint_again : (place : ℕ) (spelling rest : List ℕ) (value : ℕ) → SpellsVarint spelling value → varint_at place (spelling ++ rest) ≡ Ok (value, rest)
+pub varint_again : (offset : ℕ) (spelling rest : List ℕ) (value : ℕ) → SpellsVarint spelling value → varint_at offset (spelling ++ rest) ≡ Ok (value, rest)
 unfolding varint_at
-varint_again place spelling rest value spelled =
-    rw (groups_again 10 place spelling rest spelled.closed spelled.short) (ap (λ (n : ℕ). Ok (n, rest)) (sym spelled.low_bits))
+varint_again offset spelling rest value spelled =
+    rw (groups_again 10 offset spelling rest spelled.closed spelled.short) (ap (λ (n : ℕ). Ok (n, rest)) (sym spelled.low_bits))
 
 -- ---- bytes that are no varint
 
-groups_cut : (room place : ℕ) (bytes : List ℕ) → AllByRecursion (λ b. 128 ≤ b) bytes → length bytes < room → groups_at room place bytes ≡ Err (Truncated place)
+groups_cut : (room offset : ℕ) (bytes : List ℕ) → AllByRecursion (λ b. 128 ≤ b) bytes → length bytes < room → groups_at room offset bytes ≡ Err (Truncated offset)
 unfolding groups_at
-groups_cut zero place bytes tops few = absurd (omega arith)
-groups_cut (suc room) place [] tops few = refl
-groups_cut (suc room) place (b ∷ bytes) tops few = rw (le-ltb b 128 tops.0, groups_cut room place bytes tops.1 (omega arith)) refl
+groups_cut zero offset bytes tops few = absurd (omega arith)
+groups_cut (suc room) offset [] tops few = refl
+groups_cut (suc room) offset (b ∷ bytes) tops few = rw (le-ltb b 128 tops.0, groups_cut room offset bytes tops.1 (omega arith)) refl
 
-groups_long : (room place : ℕ) (bytes rest : List ℕ) → AllByRecursion (λ b. 128 ≤ b) bytes → length bytes ≡ room → groups_at room place (bytes ++ rest) ≡ Err (LongVarint place)
+groups_long : (room offset : ℕ) (bytes rest : List ℕ) → AllByRecursion (λ b. 128 ≤ b) bytes → length bytes ≡ room → groups_at room offset (bytes ++ rest) ≡ Err (LongVarint offset)
 unfolding groups_at
-groups_long zero place bytes rest tops all = refl
-groups_long (suc room) place [] rest tops all = absurd (omega arith)
-groups_long (suc room) place (b ∷ bytes) rest tops all = rw (le-ltb b 128 tops.0, groups_long room place bytes rest tops.1 (omega arith)) refl
+groups_long zero offset bytes rest tops all = refl
+groups_long (suc room) offset [] rest tops all = absurd (omega arith)
+groups_long (suc room) offset (b ∷ bytes) rest tops all = rw (le-ltb b 128 tops.0, groups_long room offset bytes rest tops.1 (omega arith)) refl
 
-pub varint_cut : (place : ℕ) (bytes : List ℕ) → AllByRecursion (λ b. 128 ≤ b) bytes → length bytes < 10 → varint_at place bytes ≡ Err (Truncated place)
+pub varint_cut : (offset : ℕ) (bytes : List ℕ) → AllByRecursion (λ b. 128 ≤ b) bytes → length bytes < 10 → varint_at offset bytes ≡ Err (Truncated offset)
 unfolding varint_at
-varint_cut place bytes tops few = rw (groups_cut 10 place bytes tops few) refl
+varint_cut offset bytes tops few = rw (groups_cut 10 offset bytes tops few) refl
 
-pub varint_long : (place : ℕ) (bytes rest : List ℕ) → AllByRecursion (λ b. 128 ≤ b) bytes → length bytes ≡ 10 → varint_at place (bytes ++ rest) ≡ Err (LongVarint place)
+pub varint_long : (offset : ℕ) (bytes rest : List ℕ) → AllByRecursion (λ b. 128 ≤ b) bytes → length bytes ≡ 10 → varint_at offset (bytes ++ rest) ≡ Err (LongVarint offset)
 unfolding varint_at
-varint_long place bytes rest tops all = rw (groups_long 10 place bytes rest tops all) refl
+varint_long offset bytes rest tops all = rw (groups_long 10 offset bytes rest tops all) refl
 
 -- ---- a varint has a byte
 

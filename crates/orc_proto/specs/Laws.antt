@@ -25,7 +25,7 @@ PackedAreRead = (bytes : List ℕ) (numbers : List ℕ) → PackedNumbers bytes 
 abbrev pub ReadIsPacked : Type 0
 ReadIsPacked = (bytes : List ℕ) (numbers : List ℕ) → numbers_of bytes ≡ all_read numbers → PackedNumbers bytes numbers
 
--- bytes that break have whole items in front, and the fault of the item after them, whose place is their length
+-- bytes that break have whole items in front, and the fault of the item after them, whose offset is their length
 pub record BreaksAfter {X : Type 0} (Spells : List ℕ → X → Type 0)
     (item_at : ℕ → List ℕ → Result (X × List ℕ) WireFault) (bytes : List ℕ) (items : List X)
     (fault : WireFault) : Type 0 where
@@ -51,18 +51,18 @@ EachPackedEndsOrBreaks = (bytes : List ℕ) → Outcome SpellsVarint varint_at b
 
 -- a varint is read as its number, whatever follows it
 abbrev pub VarintsAreRead : Type 0
-VarintsAreRead = (place : ℕ) (bytes rest : List ℕ) (value : ℕ) → SpellsVarint bytes value
-    → varint_at place (bytes ++ rest) ≡ Ok (value, rest)
+VarintsAreRead = (offset : ℕ) (bytes rest : List ℕ) (value : ℕ) → SpellsVarint bytes value
+    → varint_at offset (bytes ++ rest) ≡ Ok (value, rest)
 
 -- bytes that all have their top bit set are a varint that is cut, while they are fewer than ten ..
 abbrev pub OpenBytesAreTruncated : Type 0
-OpenBytesAreTruncated = (place : ℕ) (bytes : List ℕ) → AllByRecursion (λ b. 128 ≤ b) bytes → length bytes < 10
-    → varint_at place bytes ≡ Err (Truncated place)
+OpenBytesAreTruncated = (offset : ℕ) (bytes : List ℕ) → AllByRecursion (λ b. 128 ≤ b) bytes → length bytes < 10
+    → varint_at offset bytes ≡ Err (Truncated offset)
 
 -- .. and ten of them are a long varint, whatever follows
 abbrev pub TenOpenBytesAreLong : Type 0
-TenOpenBytesAreLong = (place : ℕ) (bytes rest : List ℕ) → AllByRecursion (λ b. 128 ≤ b) bytes → length bytes ≡ 10
-    → varint_at place (bytes ++ rest) ≡ Err (LongVarint place)
+TenOpenBytesAreLong = (offset : ℕ) (bytes rest : List ℕ) → AllByRecursion (λ b. 128 ≤ b) bytes → length bytes ≡ 10
+    → varint_at offset (bytes ++ rest) ≡ Err (LongVarint offset)
 
 -- the shortest varint of a number is a varint of it, and none is shorter
 abbrev pub ShortestSpells : Type 0

@@ -8,14 +8,14 @@ use Rattle.orc_proto.specs.declared.fault.WireFault.{WireFault}
 use Rattle.orc_proto.specs.declared.fault.WireFault.TheVariants.{Truncated, LongVarint}
 use Rattle.orc_proto.specs.Reading.{varint_at}
 
--- what a stream gives is what a message gives at that place
+-- what a stream gives is what a message gives at that offset
 abbrev pub IsSame : ℕ → Result (ℕ × List ℕ) RunFault → Result (ℕ × List ℕ) WireFault → Type 0
-IsSame place (Ok read) message = message ≡ Ok read
-IsSame place (Err StreamEnds) message = message ≡ Err (Truncated place)
-IsSame place (Err TooLong) message = message ≡ Err (LongVarint place)
-IsSame place (Err PatchOutOfRun) message = ⊥
-IsSame place (Err PatchTooWide) message = ⊥
-IsSame place (Err (Read failed)) message = ⊥
+IsSame offset (Ok read) message = message ≡ Ok read
+IsSame offset (Err StreamEnds) message = message ≡ Err (Truncated offset)
+IsSame offset (Err TooLong) message = message ≡ Err (LongVarint offset)
+IsSame offset (Err PatchOutOfRun) message = ⊥
+IsSame offset (Err PatchTooWide) message = ⊥
+IsSame offset (Err (Read failed)) message = ⊥
 
 abbrev pub IsOneVarint : Type 0
-IsOneVarint = (place : ℕ) (bytes : List ℕ) → IsSame place (varint bytes) (varint_at place bytes)
+IsOneVarint = (offset : ℕ) (bytes : List ℕ) → IsSame offset (varint bytes) (varint_at offset bytes)

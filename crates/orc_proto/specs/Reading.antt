@@ -1,7 +1,7 @@
--- Reading from left to right, up to the first fault. A fault carries the place of the item at which the
--- spelling breaks: of a message's field the place of its key, of a packed field that of the number.
+-- Reading from left to right, up to the first fault. A fault carries the offset of the item at which the
+-- spelling breaks: of a message's field the offset of its key, of a packed field that of the number.
 -- Within an item the faults are judged in the order key, number, wire type, value. Source: the protobuf wire
--- format; the order of the faults, their places, ten bytes of a varint and the refusal of groups are this
+-- format; the order of the faults, their offsets, ten bytes of a varint and the refusal of groups are this
 -- project's own.
 use Rattle.std.specs.Prelude.{◌≡◌, ℕ, zero, suc, ◌+◌, ◌-◌, ◌*◌, ◌/◌, ◌%◌, ◌^◌, Option, Some, None, Result, Ok, Err, List, [], ◌∷◌, length, take, drop, nat_lt, ◌==◌, if◌then◌else◌}
 use Rattle.orc_proto.specs.declared.fault.WireFault.{WireFault}
@@ -16,41 +16,41 @@ abbrev pub ◌>>=◌ : {A B : Type 0} → Result A WireFault → (A → Result B
 -- the bits of a varint that has at most `room` bytes more, and what follows it
 -- (bytes that all have their top bit set are a long varint, also where the bytes end after them)
 unfoldable pub groups_at : ℕ → ℕ → List ℕ → Result (ℕ × List ℕ) WireFault
-groups_at zero place left = Err (LongVarint place)
-groups_at (suc room) place [] = Err (Truncated place)
-groups_at (suc room) place (b ∷ left) =
-    if nat_lt b 128 then Ok (b, left) else (groups_at room place left >>= λ high. Ok (b % 128 + 128 * high.0, high.1))
+groups_at zero offset left = Err (LongVarint offset)
+groups_at (suc room) offset [] = Err (Truncated offset)
+groups_at (suc room) offset (b ∷ left) =
+    if nat_lt b 128 then Ok (b, left) else (groups_at room offset left >>= λ high. Ok (b % 128 + 128 * high.0, high.1))
 
 -- a varint, and what follows it
 unfoldable pub varint_at : ℕ → List ℕ → Result (ℕ × List ℕ) WireFault
-varint_at place left = do
-  number ← groups_at 10 place left
+varint_at offset left = do
+  number ← groups_at 10 offset left
   Ok (number.0 % 2 ^ 64, number.1)
 
 -- `count` bytes, and what follows them
 unfoldable pub bytes_at : ℕ → ℕ → List ℕ → Result (List ℕ × List ℕ) WireFault
-bytes_at count place left = if nat_lt (length left) count then Err (Truncated place) else Ok (take count left, drop count left)
+bytes_at count offset left = if nat_lt (length left) count then Err (Truncated offset) else Ok (take count left, drop count left)
 
 -- a field's number
 unfoldable pub number_at : ℕ → ℕ → Result ℕ WireFault
-number_at place number =
-    if number == 0 then Err (BadKey place) else if nat_lt greatest_number number then Err (BadKey place) else Ok number
+number_at offset number =
+    if number == 0 then Err (BadKey offset) else if nat_lt greatest_number number then Err (BadKey offset) else Ok number
 
 -- a value of a wire type, and what follows it; types 3 and 4, of groups, are refused (this project's reading)
 unfoldable pub content_at : ℕ → ℕ → List ℕ → Result (Content × List ℕ) WireFault
-content_at place wire left =
-    if wire == 0 then (varint_at place left >>= λ x. Ok (VARINT x.0, x.1))
-    else if wire == 1 then (bytes_at 8 place left >>= λ x. Ok (I64 x.0, x.1))
-    else if wire == 2 then (varint_at place left >>= λ len. bytes_at len.0 place len.1 >>= λ x. Ok (LEN x.0, x.1))
-    else if wire == 5 then (bytes_at 4 place left >>= λ x. Ok (I32 x.0, x.1))
-    else Err (BadWireType place)
+content_at offset wire left =
+    if wire == 0 then (varint_at offset left >>= λ x. Ok (VARINT x.0, x.1))
+    else if wire == 1 then (bytes_at 8 offset left >>= λ x. Ok (I64 x.0, x.1))
+    else if wire == 2 then (varint_at offset left >>= λ len. bytes_at len.0 offset len.1 >>= λ x. Ok (LEN x.0, x.1))
+    else if wire == 5 then (bytes_at 4 offset left >>= λ x. Ok (I32 x.0, x.1))
+    else Err (BadWireType offset)
 
 -- a field, and what follows it
 unfoldable pub field_at : ℕ → List ℕ → Result (Entry × List ℕ) WireFault
-field_at place left = do
-  key ← varint_at place left
-  number ← number_at place (key.0 / 8)
-  content ← content_at place (key.0 % 8) key.1
+field_at offset left = do
+  key ← varint_at offset left
+  number ← number_at offset (key.0 / 8)
+  content ← content_at offset (key.0 % 8) key.1
   Ok (record { number = number; value = content.0 }, content.1)
 
 -- an item and what the others give, or the fault

@@ -2,7 +2,7 @@
 
 /// The first fault of bytes that are no message, or no packed field.
 ///
-/// It carries the place of the key of the field that is broken, and in a packed field that of the number,
+/// It carries the offset of the key of the field that is broken, and in a packed field that of the number,
 /// in bytes from the first byte of the slice that is read. Within one field the causes are judged in this
 /// order: the key as a varint, its number, its wire type, the value.
 ///

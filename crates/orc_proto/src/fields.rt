@@ -47,7 +47,7 @@ impl<'a> Fields<'a> {
 
     /// The next field, or None at the end.
     ///
-    /// A fault is the last answer: it says why the bytes are no message, and carries the place of the key at
+    /// A fault is the last answer: it says why the bytes are no message, and carries the offset of the key at
     /// which they break, in bytes from the message's first byte. From then on every answer is None.
     pub fn next(&mut self) -> Option<Result<Field<'a>, WireFault>>
         ensures { Pops entry_of result self.old self.new }
@@ -55,8 +55,8 @@ impl<'a> Fields<'a> {
         if self.rest.is_empty() {
             return None;
         }
-        let place = (self.total - self.rest.len()) as u64;
-        match read_field(place, self.rest) {
+        let offset = (self.total - self.rest.len()) as u64;
+        match read_field(offset, self.rest) {
             Ok((field, rest)) => {
                 self.rest = rest;
                 Some(Ok(field))

@@ -5,7 +5,7 @@ ghost use Rattle.orc_proto.specs.Laws.{MessagesAreRead, ReadIsMessage, EachMessa
 
 /// A message is read as exactly its fields; what is read without a fault is a message with these fields;
 /// and bytes that are no message give the fields in front of the first fault, and then that fault with the
-/// place at which they end.
+/// offset at which they end.
 pub fn messages_are_read()
     ensures read { MessagesAreRead }
     ensures only { ReadIsMessage }

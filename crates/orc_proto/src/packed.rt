@@ -44,7 +44,7 @@ impl<'a> Packed<'a> {
 
     /// The next number, or None at the end.
     ///
-    /// A fault, `Truncated` or `LongVarint`, is the last answer, and carries the place of the number that
+    /// A fault, `Truncated` or `LongVarint`, is the last answer, and carries the offset of the number that
     /// isn't whole, in bytes from the field's first byte. From then on every answer is None.
     pub fn next(&mut self) -> Option<Result<u64, WireFault>>
         ensures { Pops (λ n. n) result self.old self.new }
@@ -52,8 +52,8 @@ impl<'a> Packed<'a> {
         if self.rest.is_empty() {
             return None;
         }
-        let place = (self.total - self.rest.len()) as u64;
-        match read_varint(place, self.rest) {
+        let offset = (self.total - self.rest.len()) as u64;
+        match read_varint(offset, self.rest) {
             Ok((number, rest)) => {
                 self.rest = rest;
                 Some(Ok(number))

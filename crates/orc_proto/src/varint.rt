@@ -9,15 +9,15 @@ use crate::fault::WireFault;
 /// The most bytes of a varint.
 const MOST_BYTES: u32 = 10;
 
-/// The varint at the front of `bytes` and what follows it. `place` is for a fault alone.
-pub(crate) fn read_varint(place: u64, bytes: &[u8]) -> Result<(u64, &[u8]), WireFault>
-    ensures { Gives (λ x. (x.0, x.1.now)) result (varint_at place bytes.now) }
+/// The varint at the front of `bytes` and what follows it. `offset` is for a fault alone.
+pub(crate) fn read_varint(offset: u64, bytes: &[u8]) -> Result<(u64, &[u8]), WireFault>
+    ensures { Gives (λ x. (x.0, x.1.now)) result (varint_at offset bytes.now) }
 {
     let mut value: u64 = 0;
     let mut rest = bytes;
     for group in 0..MOST_BYTES {
         let Some((&byte, after)) = rest.split_first() else {
-            return Err(WireFault::Truncated(place));
+            return Err(WireFault::Truncated(offset));
         };
         value = value.wrapping_add(((byte & 0x7f) as u64) << (7 * group));
         rest = after;
@@ -25,7 +25,7 @@ pub(crate) fn read_varint(place: u64, bytes: &[u8]) -> Result<(u64, &[u8]), Wire
             return Ok((value, rest));
         }
     }
-    Err(WireFault::LongVarint(place))
+    Err(WireFault::LongVarint(offset))
 }
 
 /// How many bytes the shortest varint of `value` has: 1 to 10.

@@ -39,7 +39,7 @@ FindsFirst bytes footer columns rows (Some refused) = FirstColumnFails bytes foo
 
 -- ---- acts
 
--- The column of that place was judged: its streams were opened, and taken from in turn, each over all rows; up to its fault.
+-- The column of that index was judged: its streams were opened, and taken from in turn, each over all rows; up to its fault.
 pub record JudgeActs (file : FileRef) (index : ℕ) (layout : ColumnLayout) (acts : List Act) : Type 0 where
   pub takes : List Taken
   pub turns : InTurn (judged_streams (plan_at index layout)) takes
@@ -57,7 +57,7 @@ abbrev pub JudgeOrder : {Y : Type 0} → FileRef → ℕ → ColumnLayout → Li
 JudgeOrder file index layout acts (Ok found) = JudgeActs file index layout acts
 JudgeOrder file index layout acts (Err fault) = JudgeEnds file index layout fault acts
 
--- columns, of which the first has that place, were judged one after the other
+-- columns, of which the first has that index, were judged one after the other
 abbrev pub EachJudgeActs : FileRef → ℕ → List ColumnLayout → List Act → Type 0
 EachJudgeActs file index [] acts = acts ≡ []
 EachJudgeActs file index (layout ∷ layouts) acts =

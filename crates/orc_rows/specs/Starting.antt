@@ -32,7 +32,7 @@ abbrev pub starts_in : List ℕ → List ColumnLayout → List Streams
 starts_in file [] = []
 starts_in file (layout ∷ layouts) = streams_in file layout ∷ starts_in file layouts
 
--- The column of that place: its streams were opened, and then its dictionary's were taken from, where it has one.
+-- The column of that index: its streams were opened, and then its dictionary's were taken from, where it has one.
 pub record StartActs (file : FileRef) (index : ℕ) (layout : ColumnLayout) (acts : List Act) : Type 0 where
   pub takes : List Taken
   pub turns : InTurn (start_streams (plan_at index layout)) takes
@@ -43,7 +43,7 @@ abbrev pub of_opening : OpenFault → ColumnFault
 of_opening (open_fault.Read failed) = column_fault.Read failed
 of_opening open_fault.NoMemory = column_fault.NoMemory
 
--- The column of that place wasn't started, by this fault: its streams were opened up to one; or all were, and the rest as above, or a
+-- The column of that index wasn't started, by this fault: its streams were opened up to one; or all were, and the rest as above, or a
 -- front of it.
 pub data StartEnds (file : FileRef) (index : ℕ) (layout : ColumnLayout) : ColumnFault → List Act → Type 0 where
   not_opened : {acts : List Act} (fault : OpenFault)
@@ -51,14 +51,14 @@ pub data StartEnds (file : FileRef) (index : ℕ) (layout : ColumnLayout) : Colu
       → StartEnds file index layout (of_opening fault) acts
   opened : {fault : ColumnFault} {acts : List Act} → StartActs file index layout acts → StartEnds file index layout fault acts
 
--- columns, of which the first has that place: one after the other
+-- columns, of which the first has that index: one after the other
 abbrev pub EachStartActs : FileRef → ℕ → List ColumnLayout → List Act → Type 0
 EachStartActs file index [] acts = acts ≡ []
 EachStartActs file index (layout ∷ layouts) acts =
     (front : List Act) × (back : List Act) × (acts ≡ front ++ back) × StartActs file index layout front
     × EachStartActs file (index + 1) layouts back
 
--- Columns, of which the first has that place, up to one that wasn't started.
+-- Columns, of which the first has that index, up to one that wasn't started.
 pub data EachStartEnds (file : FileRef) : ℕ → List ColumnLayout → ColumnFault → List Act → Type 0 where
   here : {index : ℕ} {layout : ColumnLayout} {layouts : List ColumnLayout} {fault : ColumnFault} {acts : List Act}
       → StartEnds file index layout fault acts → EachStartEnds file index (layout ∷ layouts) fault acts
@@ -86,7 +86,7 @@ module _ {S : Type 0} (did : S → List Act → S → Type 0) (rest : S → ℕ 
         → Tells rest after (plan_at i l) s
     pub told : (bytes : List ℕ) → HasBytes files file bytes → StartSaid index layout bytes after answer
 
-  -- the same of columns, of which the first has that place
+  -- the same of columns, of which the first has that index
   abbrev pub EachStartSaid : ℕ → List ColumnLayout → List ℕ → S → Result (List ReaderOf) ColumnFault → Type 0
   EachStartSaid index layouts bytes after (Ok readers) =
       (lefts : List Streams) × TellsEach rest after (plans_from index layouts) lefts

@@ -22,7 +22,7 @@ pub struct Refused {
     pub fault: ColumnFault,
 }
 
-/// The first condition that refuses the column of that place in so many rows, or None where it has values in all of them.
+/// The first condition that refuses the column of that index in so many rows, or None where it has values in all of them.
 ///
 /// Its streams are opened anew. `Read` comes only where the reader's faults rose in this call, and `NoMemory` where memory was
 /// refused.
@@ -65,7 +65,7 @@ fn of_content(fault: ColumnFault) -> Result<Option<ColumnFault>, OpenFault>
 
 /// The first of columns that is refused in so many rows, or None where each has values in all of them.
 ///
-/// The first has that place, and there are at most 16 in all. Each column's streams are opened anew, and judged before those of the
+/// The first has that index, and there are at most 16 in all. Each column's streams are opened anew, and judged before those of the
 /// next. `Read` comes only where the reader's faults rose in this call, and `NoMemory` where memory was refused.
 pub fn judge_columns<W: World, S: StreamReader<W>>(
     alloc: Global,

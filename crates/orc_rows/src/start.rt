@@ -16,7 +16,7 @@ use orc_tail::StripeFooter;
 use outside::{FileRef, NoMemory, World};
 use std::alloc::Global;
 
-/// Opens the streams of the column of that place, and starts its reader.
+/// Opens the streams of the column of that index, and starts its reader.
 ///
 /// A fault is that of the column before its first row. `Read` comes only where the reader's faults rose in this call, and
 /// `NoMemory` where memory was refused.
@@ -47,7 +47,7 @@ pub fn start_column<W: World, S: StreamReader<W>>(
 
 /// Opens columns of a stripe and starts their readers, one after the other, behind those that `readers` has.
 ///
-/// The first has that place, and there are at most 16 in all; the footer's streams lie in the file. A fault is that of one of
+/// The first has that index, and there are at most 16 in all; the footer's streams lie in the file. A fault is that of one of
 /// the columns before its first row: it needn't be that of the stripe. `Read` comes only where the reader's faults rose in this
 /// call, and `NoMemory` where memory was refused.
 pub fn start_columns<W: World, S: StreamReader<W>>(

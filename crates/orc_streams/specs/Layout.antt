@@ -85,7 +85,7 @@ abbrev pub number_at : ℕ → Option Span → Option ℕ
 number_at number None = None
 number_at number (Some span) = Some number
 
--- How the column of that place among the read ones is read, counted from 0: it has four numbers of streams of its own.
+-- How the column of that index among the read ones is read, counted from 0: it has four numbers of streams of its own.
 abbrev pub plan_at : ℕ → ColumnLayout → ColumnPlan
 plan_at index layout = record {
   kind = layout.kind;
@@ -99,7 +99,7 @@ plan_at index layout = record {
   dictionary_len = span_len layout.dictionary;
 }
 
--- the plans of the columns that are read, of which the first has that place
+-- the plans of the columns that are read, of which the first has that index
 abbrev pub plans_from : ℕ → List ColumnLayout → List ColumnPlan
 plans_from index [] = []
 plans_from index (layout ∷ layouts) = plan_at index layout ∷ plans_from (index + 1) layouts

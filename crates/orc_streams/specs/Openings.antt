@@ -30,13 +30,13 @@ abbrev pub spans_of : List Opening → List StreamSpan
 spans_of [] = []
 spans_of (o ∷ os) = the_stream o.stream o.span ++ spans_of os
 
--- the openings of the column of that place: PRESENT, DATA, LENGTH, DICTIONARY_DATA
+-- the openings of the column of that index: PRESENT, DATA, LENGTH, DICTIONARY_DATA
 abbrev pub openings_at : ℕ → ColumnLayout → List Opening
 openings_at index layout =
     (record { stream = 4 * index; span = layout.present }) ∷ (record { stream = 4 * index + 1; span = layout.body })
     ∷ (record { stream = 4 * index + 2; span = layout.length }) ∷ (record { stream = 4 * index + 3; span = layout.dictionary }) ∷ []
 
--- the streams of columns, column by column, of which the first has that place
+-- the streams of columns, column by column, of which the first has that index
 abbrev pub spans_from : ℕ → List ColumnLayout → List StreamSpan
 spans_from index [] = []
 spans_from index (layout ∷ layouts) = spans_of (openings_at index layout) ++ spans_from (index + 1) layouts
@@ -118,7 +118,7 @@ module _ {S : Type 0} (rest : S → ℕ → Option (List ℕ)) (reader : S) wher
   EachSized index [] = Unit {0}
   EachSized index (layout ∷ layouts) = HasLengths rest reader (plan_at index layout) × EachSized (index + 1) layouts
 
--- the streams of the columns of all other places, where they were told, are as they were
+-- the streams of the columns of all other indices, where they were told, are as they were
 abbrev pub OthersStay : {S : Type 0} → (S → ℕ → Option (List ℕ)) → ℕ → S → S → Type 0
 OthersStay rest index before after =
     (i : ℕ) (layout : ColumnLayout) (s : Streams) → (i ≡ index → ⊥) → Tells rest before (plan_at i layout) s

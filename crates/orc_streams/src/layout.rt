@@ -29,7 +29,7 @@ pub struct ReadColumn {
 /// A range of a file, in bytes counted from the file's first.
 #[derive(Clone, Copy)]
 pub struct Span {
-    /// The place of its first byte.
+    /// The offset of its first byte.
     pub at: u64,
     /// Its bytes.
     pub len: u64,
@@ -163,9 +163,9 @@ fn len_of(span: Option<Span>) -> u64
 }
 
 impl ColumnLayout {
-    /// How the column is read from a feed, as the column of that place among the columns that are read, counted from 0.
+    /// How the column is read from a feed, as the column of that index among the columns that are read, counted from 0.
     ///
-    /// There are at most 16. The column of place i has the streams 4·i PRESENT, 4·i + 1 DATA, 4·i + 2 LENGTH and 4·i + 3
+    /// There are at most 16. The column of index i has the streams 4·i PRESENT, 4·i + 1 DATA, 4·i + 2 LENGTH and 4·i + 3
     /// DICTIONARY_DATA, where they are there.
     pub fn plan(self, index: u32) -> ColumnPlan
         requires few { index < 16 }

@@ -60,9 +60,9 @@ fn open_each<W: World, S: StreamReader<W>>(
     }
 }
 
-/// Opens the streams of the column of that place: PRESENT, DATA, LENGTH and DICTIONARY_DATA, where they are there.
+/// Opens the streams of the column of that index: PRESENT, DATA, LENGTH and DICTIONARY_DATA, where they are there.
 ///
-/// The column of place i, of at most 16, has the numbers that `ColumnLayout::plan` gives it; its streams lie in the file. After an
+/// The column of index i, of at most 16, has the numbers that `ColumnLayout::plan` gives it; its streams lie in the file. After an
 /// error the streams in front of the one that isn't open are. `Read` comes only where the reader's faults rose in this call, and
 /// `NoMemory` where memory was refused.
 pub fn open_column<W: World, S: StreamReader<W>>(
@@ -85,7 +85,7 @@ pub fn open_column<W: World, S: StreamReader<W>>(
         → Tells S.rest reader.new (plan_at index layout) (streams_in bytes layout)) }
     ensures sized { OnOk result (HasLengths S.rest reader.new (plan_at index layout)) }
 
-    // Columns of other places that were opened before stay as they are.
+    // Columns of other indices that were opened before stay as they are.
     ensures others { OthersStay S.rest index reader.old reader.new }
 {
     let first = 4 * index;
@@ -110,7 +110,7 @@ pub fn open_column<W: World, S: StreamReader<W>>(
     open_each(alloc, reader, file, &openings)
 }
 
-/// Opens the streams of columns, of which the first has that place.
+/// Opens the streams of columns, of which the first has that index.
 fn open_from<W: World, S: StreamReader<W>>(
     alloc: Global,
     reader: &mut S,

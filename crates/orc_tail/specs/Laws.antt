@@ -94,7 +94,7 @@ abbrev pub EncodingsAreRead : Type 0
 EncodingsAreRead = (bytes : List ℕ) (fields : List Entry) → Message bytes fields
     → encoding_of bytes ≡ Ok (record { kind = singular 1 fields; dictionary_size = singular 2 fields })
 
--- The first broken message by its place: the fields in front of it were read, and then the bytes are no message, or what a
+-- The first broken message by its offset: the fields in front of it were read, and then the bytes are no message, or what a
 -- field holds is refused.
 pub data FirstBroken {S : Type 0} (step : S → Entry → Result S TailFault) (start : S)
     (items : List (Result Entry WireFault)) (fault : TailFault) : Type 0 where

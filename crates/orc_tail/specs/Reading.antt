@@ -11,7 +11,7 @@ abbrev pub ◌>>=◌ : {A B : Type 0} → Result A TailFault → (A → Result B
 (Err e) >>= f = Err e
 
 -- What a message makes of a state, field by field in order. A message inside a field is judged at that
--- field, so the first fault by its place is the one that counts (this project's reading).
+-- field, so the first fault by its offset is the one that counts (this project's reading).
 -- Source: the protobuf wire format, "Message Structure" and "Last One Wins".
 abbrev pub fields_from : {S : Type 0} → (S → Entry → Result S TailFault) → S → List (Result Entry WireFault) → Result S TailFault
 fields_from step s [] = Ok s

@@ -52,7 +52,7 @@ stripe_footer_plan file stripe bytes = record {
 abbrev pub range_plan : FileRef → ℕ → ℕ → List ℕ → Plan (List ℕ) TailFault
 range_plan file at len bytes = reading file at len (known (Ok (slice_range bytes at (at + len))))
 
--- the place of the footer, by the last bytes alone
+-- the range of the footer, by the last bytes alone
 abbrev pub span_plan : FileRef → List ℕ → Plan Span TailFault
 span_plan file bytes =
     reading file (end_at file.len) (end_len file.len)

@@ -19,7 +19,7 @@ pub enum TailFault {
     NotOrc,
     /// The PostScript names a compression, which has this number.
     Compressed(u64),
-    /// A message, or a packed list of subtypes, is broken. The place is counted in the message, or in the
+    /// A message, or a packed list of subtypes, is broken. The offset is counted in the message, or in the
     /// packed bytes, that hold the fault.
     Wire(WireFault),
     /// The footer, or a stripe, doesn't lie in the file.

@@ -16,7 +16,7 @@ use std::alloc::Global;
 
 /// Reads the footer of a stripe, in one read.
 ///
-/// Places are in bytes, counted from the file's first byte. The streams follow each other from the stripe's
+/// Offsets are in bytes, counted from the file's first byte. The streams follow each other from the stripe's
 /// first byte on, and end before its footer.
 ///
 /// Refuses by the first of three conditions: `Wire`, `StreamOutOfStripe` and `RootPresent`. `Read` comes

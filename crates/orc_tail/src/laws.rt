@@ -24,7 +24,7 @@ pub fn types_are_read()
     packed_numbers_are_read();
 }
 
-/// A message that is refused has whole fields in front, and then the first of what breaks it by its place: a field
+/// A message that is refused has whole fields in front, and then the first of what breaks it by its offset: a field
 /// that is no field, or one whose own bytes are refused, by that fault.
 pub fn the_first_fault_counts()
     ensures types { TypesBreakFirst }

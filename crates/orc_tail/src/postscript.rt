@@ -23,7 +23,7 @@ pub(crate) struct PostScript {
     pub(crate) is_orc: bool,
 }
 
-/// A range of a file: its place, counted from the file's first byte, and its bytes.
+/// A range of a file: its offset, counted from the file's first byte, and its bytes.
 #[derive(Clone, Copy)]
 pub(crate) struct Span {
     pub(crate) at: u64,

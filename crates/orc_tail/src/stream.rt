@@ -9,7 +9,7 @@ use crate::message::{Message, read_message};
 use orc_proto::{Field, FieldValue};
 use std::marker::Model;
 
-/// A stream as a stripe footer spells it, whose place follows from the streams before it.
+/// A stream as a stripe footer spells it, whose offset follows from the streams before it.
 ///
 /// Source: Apache ORC specification v1, "Stripe Footer", `Stream`.
 #[derive(Clone, Copy)]
@@ -69,7 +69,7 @@ pub struct StreamRange {
     pub kind: u64,
     /// The number of the column's type.
     pub column: u64,
-    /// The place of its first byte, counted from the file's first byte.
+    /// The offset of its first byte, counted from the file's first byte.
     pub at: u64,
     /// Its bytes.
     pub len: u64,

@@ -16,7 +16,7 @@ use std::marker::Model;
 /// Source: Apache ORC specification v1, "Stripe Information".
 #[derive(Clone, Copy, Debug, PartialEq, Eq)]
 pub struct Stripe {
-    /// The place of its first byte.
+    /// The offset of its first byte.
     pub at: u64,
     /// The bytes of its index.
     pub index_len: u64,

@@ -79,7 +79,7 @@ fn read_parts(alloc: Global, bytes: &[u8]) -> Result<FooterParts, TailFault>
     Ok(parts)
 }
 
-/// Gives each stream its place, from the stripe's first byte on.
+/// Gives each stream its offset, from the stripe's first byte on.
 ///
 /// Refuses by StreamOutOfStripe.
 #[tactic(auto, unfolding(crate::specs::StripeFooter::streams_within))]

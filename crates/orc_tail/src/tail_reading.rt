@@ -55,7 +55,7 @@ fn read_footer<W: World, B: RangeReader<W>>(
 
 /// Reads the tail of a file: its stripes and its top-level columns.
 ///
-/// Lengths and places are in bytes, counted from the file's first byte. It reads the last 256 bytes, or the
+/// Lengths and offsets are in bytes, counted from the file's first byte. It reads the last 256 bytes, or the
 /// whole file where that is shorter, and then the footer, each in one read.
 ///
 /// Refuses by the first of nine conditions: `TooLarge` above 4,294,967,295 bytes, `TooShort`, `NotOrc`,

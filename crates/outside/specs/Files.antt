@@ -8,7 +8,7 @@ use Rattle.outside.specs.declared.file_ref.FileRange.{FileRange}
 abbrev pub File : Type 0
 File = List ℕ × List ℕ
 
--- the files of a run, in order: a file's number is its place
+-- the files of a run, in order: a file's number is its index
 abbrev pub Files : Type 0
 Files = List File
 
@@ -24,7 +24,7 @@ found_from number name [] = None
 found_from number name (f ∷ fs) =
     cond (bytes_eq f.0 name) (Some (record { number = number; len = length f.1 })) (found_from (number + 1) name fs)
 
--- the file of that name: its place in the list, and its length
+-- the file of that name: its index in the list, and its length
 abbrev pub file_named : List ℕ → Files → Option FileRef
 file_named name files = found_from 0 name files
 

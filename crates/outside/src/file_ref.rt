@@ -1,7 +1,7 @@
 /// A file of the run, as a store names it.
 #[derive(Clone, Copy, Debug, PartialEq, Eq)]
 pub struct FileRef {
-    /// The file's place among the files of the run, counted from 0.
+    /// The file's index among the files of the run, counted from 0.
     pub number: u32,
     /// Its length in bytes.
     pub len: u64,

@@ -16,7 +16,7 @@ use std::rt::Files;
 
 /// The files of the current folder as a store. It tells nothing of what they hold, and keeps no log.
 ///
-/// A file's number is its place in the list of names that the store was made with. `find` fails where the
+/// A file's number is its index in the list of names that the store was made with. `find` fails where the
 /// length of a listed file can't be had, and a read that ends early fails. Contracts see the names and how
 /// often a call has failed.
 #[derive(Drop)]
