@@ -3,9 +3,11 @@
 #![tactic(auto)]
 
 mod held;
+mod in_place;
 mod integers;
 mod ramp;
 
 pub use held::{Held, MOST};
+pub use in_place::{integers_in, varint_in};
 pub use integers::{bits_of, write_integers};
 pub use ramp::{write_copies, write_ramp};

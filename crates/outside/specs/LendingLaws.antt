@@ -125,14 +125,17 @@ passed_over : (front left lent whole : List ℕ) → lent ≡ front ++ left → 
     → (more : List ℕ) × (whole ≡ front ++ more) × (skipped (length lent - length left) whole ≡ Ok (tt, more))
 passed_over front left lent whole parts is =
     let more = left ++ drop (length lent) whole in
-    let whole_is : whole ≡ front ++ more = is ∙ ap (λ (l : List ℕ). l ++ drop (length lent) whole) parts ∙ append_assoc front left (drop (length lent) whole) in
+    let whole_is : whole ≡ front ++ more = is ∙ ap (λ (l : List ℕ). l ++ drop (length lent) whole) parts
+    ∙ append_assoc front left (drop (length lent) whole) in
     let count : length lent - length left ≡ length front = omega (arith, ap length parts, length-append front left) in
     let fits : length front ≤ length whole = omega (arith, ap length whole_is, length-append front more) in
     let behind : drop (length front) whole ≡ more = ap (drop (length front)) whole_is ∙ drop_front front more in
     (more, whole_is, rw (count, ← behind) (skipped-is (length front) whole fits))
   where
     drop_front : (xs ys : List ℕ) → drop (length xs) (xs ++ ys) ≡ ys
-    drop_front xs ys = let e : length xs + 0 ≡ length xs = omega arith in ap (λ (n : ℕ). drop n (xs ++ ys)) (sym e) ∙ drop-append-add xs ys 0
+    drop_front xs ys =
+        let e : length xs + 0 ≡ length xs = omega arith in
+        ap (λ (n : ℕ). drop n (xs ++ ys)) (sym e) ∙ drop-append-add xs ys 0
 
 -- a call that reads what is there finds no fault but that of the feed
 no_fault : {Y : Type 0} (fault : RunFault) (read : Result (Y × List ℕ) RunFault) (p : Y × List ℕ) → read ≡ Ok p → Faults fault read
@@ -152,7 +155,8 @@ failed_breaks : {V : Type 0} (Run : List ℕ → List V → Type 0) (read : Read
     → ((failed : Failed) × (fault ≡ Read failed)) → BreaksWith Run read start count fault
 failed_breaks Run read start count fault (failed, is) = rw is tt
 
-failed_faults : {Y : Type 0} (fault : RunFault) (read : Result (Y × List ℕ) RunFault) → ((failed : Failed) × (fault ≡ Read failed)) → Faults fault read
+failed_faults : {Y : Type 0} (fault : RunFault) (read : Result (Y × List ℕ) RunFault) → ((failed : Failed) × (fault ≡ Read failed))
+    → Faults fault read
 failed_faults fault read (failed, is) = rw is tt
 
 module _ {F : Type 0} (rest : F → ℕ → Option (List ℕ)) (fed : F → List Taken → F → Type 0) (count : F → ℕ) (stream : ℕ)
@@ -227,9 +231,52 @@ module _ {F : Type 0} (rest : F → ℕ → Option (List ℕ)) (fed : F → List
     takes = one.takes ++ skip.takes;
     led = joined first between last one.takes skip.takes one.led skip.led;
     own = AllOf-append stream one.takes skip.takes one.own skip.own;
-    cause = Cause-then (count first) (count between) (count last) one.cause (record { later = skip.cause.later; failed = skip.cause.failed });
+    cause = Cause-then (count first) (count between) (count last) one.cause
+        (record { later = skip.cause.later; failed = skip.cause.failed });
     told = λ bytes e.
         let f = one.told bytes e in
         let p = passed_over in_place.front left lent f.0 in_place.parts (front_told (rest between stream) lent f.0 f.1 front) in
-        λ start earlier at. failed_breaks Run read start (length earlier + asked) fault (no_fault fault _ (tt, p.0) p.2 (skip.told f.0 f.1));
+        let failed = no_fault fault _ (tt, p.0) p.2 (skip.told f.0 f.1) in
+        λ start earlier at. failed_breaks Run read start (length earlier + asked) fault failed;
+  }
+
+  -- values were given, and then others by a call that was asked for what was still open
+  pub Fills-then : {V : Type 0} (Run : List ℕ → List V → Type 0) (read : Reader (List V)) (first between last : F)
+      (before given values held : List V) (asked more : ℕ) → length given + more ≡ asked
+      → Fills rest fed count Run read stream first between before [] asked (Ok given)
+      → Fills rest fed count Run read stream between last [] held more (Ok values)
+      → Fills rest fed count Run read stream first last before held asked (Ok (given ++ values))
+  Fills-then {V} Run read first between last before given values held asked more is one two = record {
+    takes = one.takes ++ two.takes;
+    led = joined first between last one.takes two.takes one.led two.led;
+    own = AllOf-append stream one.takes two.takes one.own two.own;
+    cause = Cause-then (count first) (count between) (count last) one.cause two.cause;
+    told = λ bytes e.
+        let f = one.told bytes e in
+        let g = two.told f.0 f.1 in (
+          g.0,
+          g.1,
+          λ start earlier at.
+              subst (λ (l : List V). Between Run start l held g.0) (append_assoc earlier given values)
+              (g.2 start (earlier ++ given) (f.2 start earlier at)),
+        );
+  }
+
+  -- values were given, and then the call for what was still open met a fault
+  pub Fills-broken : {V : Type 0} (Run : List ℕ → List V → Type 0) (read : Reader (List V)) (first between last : F)
+      (before given held : List V) (asked more : ℕ) (fault : RunFault) → length given + more ≡ asked
+      → Fills rest fed count Run read stream first between before [] asked (Ok given)
+      → Fills rest fed count Run read stream between last [] held more (Err fault)
+      → Fills rest fed count Run read stream first last before held asked (Err fault)
+  Fills-broken Run read first between last before given held asked more fault is one two = record {
+    takes = one.takes ++ two.takes;
+    led = joined first between last one.takes two.takes one.led two.led;
+    own = AllOf-append stream one.takes two.takes one.own two.own;
+    cause = Cause-then (count first) (count between) (count last) one.cause
+        (record { later = two.cause.later; failed = two.cause.failed });
+    told = λ bytes e.
+        let f = one.told bytes e in
+        λ start earlier at.
+        let all : length (earlier ++ given) + more ≡ length earlier + asked = omega (arith, is, length-append earlier given) in
+        subst (λ (n : ℕ). BreaksWith Run read start n fault) all (two.told f.0 f.1 start (earlier ++ given) (f.2 start earlier at));
   }

@@ -32,6 +32,7 @@ mod varints;
 mod world;
 mod writing;
 
+pub use begun::Begun;
 pub use bytes::Bytes;
 pub use exact::{skip_exactly, take_byte, take_exactly};
 pub use failed::{Failed, NoMemory};
