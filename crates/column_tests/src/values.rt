@@ -1,7 +1,9 @@
 //! The typed lists behind a column.
 
 use crate::case::push_rows;
-use orc_values::{Column, ColumnValues, Texts, ValueRef, lay_ends, spread};
+use orc_values::{
+    Column, ColumnValues, DenseValues, Texts, ValueRef, lay_ends, spread, spread_numbers,
+};
 use std::alloc::Global;
 
 /// Whether these are the rows of a column, as words.
@@ -19,7 +21,7 @@ const PRESENT: [bool; 4] = [true, false, true, false];
 
 fn bools_spread(alloc: Global) -> Option<bool> {
     let mut entries = [false, true, true, true].to_vec(alloc).ok()?;
-    spread(&PRESENT, &mut entries);
+    spread(&PRESENT, 2, &mut entries);
     has_rows(
         alloc,
         &PRESENT,
@@ -30,7 +32,7 @@ fn bools_spread(alloc: Global) -> Option<bool> {
 
 fn numbers_spread(alloc: Global) -> Option<bool> {
     let mut entries = [-5i64, 7, 0, 0].to_vec(alloc).ok()?;
-    spread(&PRESENT, &mut entries);
+    spread(&PRESENT, 2, &mut entries);
     has_rows(
         alloc,
         &PRESENT,
@@ -57,6 +59,39 @@ fn dense_values_come_to_their_rows(rt: HostRuntime) {
     assert!(rt; bools_spread(rt.alloc()) == Some(true));
     assert!(rt; numbers_spread(rt.alloc()) == Some(true));
     assert!(rt; texts_cut(rt.alloc()) == Some(true));
+}
+
+fn numbers_kept(alloc: Global) -> Option<bool> {
+    let mut rows = [-5i64, 7, 0, 0].to_vec(alloc).ok()?;
+    let mut kept = Vec::new(alloc);
+    spread_numbers(&PRESENT, 2, &mut rows, &mut kept).ok()?;
+    let present = PRESENT.to_vec(alloc).ok()?;
+    let column = Column::with_numbers(present, 2, ColumnValues::Ints(rows), kept);
+    match column.dense() {
+        Some(DenseValues::Ints(numbers)) => {
+            Some(column.count() == 2 && numbers == [-5i64, 7].as_slice())
+        }
+        _ => None,
+    }
+}
+
+fn whole_texts(alloc: Global) -> Option<bool> {
+    let mut texts = Texts::empty(alloc);
+    texts.push(b"/a").ok()?;
+    let present = [true].to_vec(alloc).ok()?;
+    let column = Column::new(present, ColumnValues::Texts(texts));
+    match column.dense() {
+        Some(DenseValues::Texts(texts)) => {
+            Some(column.count() == 1 && texts.get(0) == b"/a".as_slice())
+        }
+        _ => None,
+    }
+}
+
+#[test]
+fn dense_values_are_lent(rt: HostRuntime) {
+    assert!(rt; numbers_kept(rt.alloc()) == Some(true));
+    assert!(rt; whole_texts(rt.alloc()) == Some(true));
 }
 
 const VALUES: [ValueRef<'static>; 4] = [

@@ -13,8 +13,7 @@ use Rattle.orc_values.specs.Column.{column_of}
 use Rattle.orc_values.specs.Texts.{slices}
 use Rattle.orc_values.specs.Woven.{present_count}
 use Rattle.orc_columns.specs.declared.fault.ColumnFault.{ColumnFault}
-use Rattle.orc_columns.specs.declared.fault.ColumnFault.TheVariants.{BadEncoding, Run, NegativeLength, LengthsPastData}
-use Rattle.orc_columns.specs.declared.fault.ColumnFault.TheVariants.{IndexOutOfDictionary, Read, NoMemory}
+use Rattle.orc_columns.specs.declared.fault.ColumnFault.TheVariants.{Run, NegativeLength, LengthsPastData}
 use Rattle.orc_columns.specs.declared.fault.StreamName.TheVariants as name
 use Rattle.orc_columns.specs.declared.plan.ColumnPlan.{ColumnPlan}
 use Rattle.orc_columns.specs.declared.spelling.Spelling.{Spelling}
@@ -38,17 +37,8 @@ IsOfKind kind (value.Text text) = kind ≡ 7
 
 -- a run's fault isn't that of the feed
 abbrev pub HoldsNoRead : ColumnFault → Type 0
-HoldsNoRead BadEncoding = Unit {0}
 HoldsNoRead (Run name (run.Read failed)) = ⊥
-HoldsNoRead (Run name run.StreamEnds) = Unit {0}
-HoldsNoRead (Run name run.LongVarint) = Unit {0}
-HoldsNoRead (Run name run.PatchOutOfRun) = Unit {0}
-HoldsNoRead (Run name run.PatchTooWide) = Unit {0}
-HoldsNoRead NegativeLength = Unit {0}
-HoldsNoRead LengthsPastData = Unit {0}
-HoldsNoRead IndexOutOfDictionary = Unit {0}
-HoldsNoRead (Read failed) = Unit {0}
-HoldsNoRead NoMemory = Unit {0}
+HoldsNoRead fault = Unit {0}
 
 -- ---- decoders
 
@@ -96,13 +86,9 @@ pub record TotalOf (numbers : List ℤ) (room total : ℕ) : Type 0 where
 
 -- these numbers are no lengths: one is negative, or there is no room for so many bytes
 abbrev pub AreRefused : List ℤ → ℕ → ColumnFault → Type 0
-AreRefused numbers room BadEncoding = ⊥
-AreRefused numbers room (Run name fault) = ⊥
 AreRefused numbers room NegativeLength = (number : ℤ) × Contains numbers number × IsNegative number
 AreRefused numbers room LengthsPastData = All IsNonNegative numbers × (room < sum (map unsigned_abs numbers))
-AreRefused numbers room IndexOutOfDictionary = ⊥
-AreRefused numbers room (Read failed) = ⊥
-AreRefused numbers room NoMemory = ⊥
+AreRefused numbers room fault = ⊥
 
 -- with the lengths that were given before, which left so much room, the fault is the first of so many lengths more
 abbrev pub LengthsRefuse : IntegersOf → ℕ → ℕ → Streams → ColumnFault → Type 0
@@ -123,17 +109,10 @@ ReadsPlan plan (reader.Dictionary d) = (d.places.stream ≡ plan.body) × (d.pla
 -- the typed list of a spelling's values
 abbrev pub IsTyped : Spelling → ColumnValues → Type 0
 IsTyped Bits (list.Bools entries) = Unit {0}
-IsTyped Bits (list.Ints entries) = ⊥
-IsTyped Bits (list.Texts entries) = ⊥
-IsTyped (Integers version) (list.Bools entries) = ⊥
 IsTyped (Integers version) (list.Ints entries) = Unit {0}
-IsTyped (Integers version) (list.Texts entries) = ⊥
-IsTyped (Texts version) (list.Bools entries) = ⊥
-IsTyped (Texts version) (list.Ints entries) = ⊥
 IsTyped (Texts version) (list.Texts entries) = Unit {0}
-IsTyped (Dictionary version) (list.Bools entries) = ⊥
-IsTyped (Dictionary version) (list.Ints entries) = ⊥
 IsTyped (Dictionary version) (list.Texts entries) = Unit {0}
+IsTyped spelling entries = ⊥
 
 -- A reader's values go on with those of a typed list, one for each flag that is set, and it takes nothing of PRESENT.
 pub record ValuesGoOn (size : ℕ) (flags : List Bool) (old new : ValueReader) (before after : Streams) (typed : ColumnValues) : Type 0 where

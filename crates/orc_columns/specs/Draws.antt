@@ -8,8 +8,7 @@ use Rattle.outside.specs.Feed.{Taken}
 use Rattle.outside.specs.Reading.{Reader}
 use Rattle.outside.specs.Runs.{Between, Breaks}
 use Rattle.orc_columns.specs.declared.fault.ColumnFault.{ColumnFault}
-use Rattle.orc_columns.specs.declared.fault.ColumnFault.TheVariants.{BadEncoding, Run, NegativeLength, LengthsPastData}
-use Rattle.orc_columns.specs.declared.fault.ColumnFault.TheVariants.{IndexOutOfDictionary, Read, NoMemory}
+use Rattle.orc_columns.specs.declared.fault.ColumnFault.TheVariants.{Run, Read, NoMemory}
 use Rattle.orc_columns.specs.declared.fault.StreamName.{StreamName}
 use Rattle.orc_columns.specs.declared.plan.ColumnPlan.{ColumnPlan}
 use Rattle.orc_columns.specs.Column.{Streams}
@@ -48,12 +47,7 @@ pub record Tells {F : Type 0} (rest : F → ℕ → Option (List ℕ)) (feed : F
 -- the feed failed
 abbrev pub IsReadError : ColumnFault → Type 0
 IsReadError (Read failed) = Unit {0}
-IsReadError NoMemory = ⊥
-IsReadError BadEncoding = ⊥
-IsReadError (Run name fault) = ⊥
-IsReadError NegativeLength = ⊥
-IsReadError LengthsPastData = ⊥
-IsReadError IndexOutOfDictionary = ⊥
+IsReadError fault = ⊥
 
 abbrev pub FailedToRead : {Y : Type 0} → Result Y ColumnFault → Type 0
 FailedToRead (Ok y) = ⊥
@@ -63,11 +57,7 @@ FailedToRead (Err fault) = IsReadError fault
 abbrev pub Decided : (ColumnFault → Type 0) → ColumnFault → Type 0
 Decided Faults (Read failed) = Unit {0}
 Decided Faults NoMemory = Unit {0}
-Decided Faults BadEncoding = Faults BadEncoding
-Decided Faults (Run name fault) = Faults (Run name fault)
-Decided Faults NegativeLength = Faults NegativeLength
-Decided Faults LengthsPastData = Faults LengthsPastData
-Decided Faults IndexOutOfDictionary = Faults IndexOutOfDictionary
+Decided Faults fault = Faults fault
 
 module _ {F Y : Type 0} (rest : F → ℕ → Option (List ℕ)) (fed : F → List Taken → F → Type 0) (count : F → ℕ) (plan : ColumnPlan) where
   -- what is said of an answer, of the bytes that were left before
@@ -91,10 +81,7 @@ module _ {F Y : Type 0} (rest : F → ℕ → Option (List ℕ)) (fed : F → Li
 -- the fault of a column by that of a run in one of its streams
 abbrev pub of_run : StreamName → RunFault → ColumnFault
 of_run name (run.Read failed) = Read failed
-of_run name run.StreamEnds = Run name run.StreamEnds
-of_run name run.LongVarint = Run name run.LongVarint
-of_run name run.PatchOutOfRun = Run name run.PatchOutOfRun
-of_run name run.PatchTooWide = Run name run.PatchTooWide
+of_run name fault = Run name fault
 
 abbrev pub in_stream : {Y : Type 0} → StreamName → Result Y RunFault → Result Y ColumnFault
 in_stream name (Ok y) = Ok y

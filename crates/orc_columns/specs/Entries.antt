@@ -4,8 +4,7 @@ use Rattle.std.specs.Option.{unwrap_or}
 use Rattle.outside.specs.Runs.{Spells}
 use Rattle.orc_values.specs.Woven.{woven}
 use Rattle.orc_columns.specs.declared.fault.ColumnFault.{ColumnFault}
-use Rattle.orc_columns.specs.declared.fault.ColumnFault.TheVariants.{BadEncoding, Run, NegativeLength, LengthsPastData}
-use Rattle.orc_columns.specs.declared.fault.ColumnFault.TheVariants.{IndexOutOfDictionary, Read, NoMemory}
+use Rattle.orc_columns.specs.declared.fault.ColumnFault.TheVariants.{IndexOutOfDictionary, NoMemory}
 use Rattle.orc_columns.specs.declared.spelling.Version.{Version}
 use Rattle.orc_columns.specs.Column.{Streams, places_of}
 use Rattle.orc_columns.specs.Spelling.{IntRun}
@@ -21,13 +20,9 @@ row_texts flags texts = map (λ text. unwrap_or text []) (woven flags texts)
 
 -- a number isn't below that of the entries, or memory was refused
 abbrev pub IsOutOf : List (List ℕ) → List ℤ → ColumnFault → Type 0
-IsOutOf entries numbers BadEncoding = ⊥
-IsOutOf entries numbers (Run name fault) = ⊥
-IsOutOf entries numbers NegativeLength = ⊥
-IsOutOf entries numbers LengthsPastData = ⊥
 IsOutOf entries numbers IndexOutOfDictionary = (place : ℕ) × Contains (places_of numbers) place × (length entries ≤ place)
-IsOutOf entries numbers (Read failed) = ⊥
 IsOutOf entries numbers NoMemory = Unit {0}
+IsOutOf entries numbers fault = ⊥
 
 -- the numbers of the lengths of all entries were read, and of LENGTH no more than the fewest runs that spell them
 pub record LengthsRead (version : Version) (size : ℕ) (before after : Streams) (numbers : List ℤ) : Type 0 where

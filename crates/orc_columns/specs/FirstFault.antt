@@ -6,8 +6,7 @@ use Rattle.outside.specs.Feed.{Taken}
 use Rattle.orc_values.specs.declared.value.Value.{Value}
 use Rattle.orc_values.specs.Woven.{present_count}
 use Rattle.orc_columns.specs.declared.fault.ColumnFault.{ColumnFault}
-use Rattle.orc_columns.specs.declared.fault.ColumnFault.TheVariants.{BadEncoding, Run, NegativeLength, LengthsPastData}
-use Rattle.orc_columns.specs.declared.fault.ColumnFault.TheVariants.{IndexOutOfDictionary, Read, NoMemory}
+use Rattle.orc_columns.specs.declared.fault.ColumnFault.TheVariants.{Run, Read, NoMemory}
 use Rattle.orc_columns.specs.declared.fault.StreamName.TheVariants as name
 use Rattle.orc_columns.specs.declared.plan.ColumnPlan.{ColumnPlan}
 use Rattle.orc_columns.specs.declared.spelling.Spelling.{Spelling}
@@ -24,23 +23,13 @@ Finds plan rows s (Some fault) = Fails plan s rows fault
 
 -- a fault that judging answers: a run's isn't the feed's, and memory is never wanted
 abbrev pub IsJudged : ColumnFault → Type 0
-IsJudged (Read failed) = Unit {0}
 IsJudged NoMemory = ⊥
-IsJudged BadEncoding = Unit {0}
-IsJudged (Run name fault) = HoldsNoRead (Run name fault)
-IsJudged NegativeLength = Unit {0}
-IsJudged LengthsPastData = Unit {0}
-IsJudged IndexOutOfDictionary = Unit {0}
+IsJudged fault = HoldsNoRead fault
 
 -- what was found by a fault
 abbrev pub found_by : ColumnFault → Result (Option ColumnFault) ColumnFault
 found_by (Read failed) = Err (Read failed)
-found_by NoMemory = Ok (Some NoMemory)
-found_by BadEncoding = Ok (Some BadEncoding)
-found_by (Run name fault) = Ok (Some (Run name fault))
-found_by NegativeLength = Ok (Some NegativeLength)
-found_by LengthsPastData = Ok (Some LengthsPastData)
-found_by IndexOutOfDictionary = Ok (Some IndexOutOfDictionary)
+found_by fault = Ok (Some fault)
 
 -- A column was judged, told or not: takes are of its plan's streams alone, in turn, each over all rows before the next; an
 -- error is that the feed failed, by its cause, and never want of memory; no run's fault that is found is the feed's; and where

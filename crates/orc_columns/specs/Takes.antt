@@ -23,10 +23,7 @@ pub record ReadsIn {F Y : Type 0} (rest : F → ℕ → Option (List ℕ)) (fed 
 -- the fault of a column whose texts' bytes aren't there
 abbrev pub take_fault : RunFault → ColumnFault
 take_fault (run.Read failed) = Read failed
-take_fault run.StreamEnds = LengthsPastData
-take_fault run.LongVarint = LengthsPastData
-take_fault run.PatchOutOfRun = LengthsPastData
-take_fault run.PatchTooWide = LengthsPastData
+take_fault fault = LengthsPastData
 
 -- so many bytes were taken of DATA
 pub record BodyTaken (count : ℕ) (before after : Streams) (bytes : List ℕ) : Type 0 where

@@ -17,7 +17,7 @@ use crate::plan::ColumnPlan;
 use crate::present::Present;
 use crate::spelling::spelling_of;
 use crate::value_reader::{ValueReader, start_values};
-use orc_values::Column;
+use orc_values::{Column, count_present};
 use outside::Feed;
 use std::alloc::Global;
 use std::marker::Model;
@@ -147,10 +147,13 @@ fn fill_rows<F: Feed>(
         (RowsGoOn (whole_reader plan present.old values.old) (whole_reader plan present.new values.new))
         (RowsFail (whole_reader plan present.old values.old) rows) (placed out.new result) }
 {
-    let (mut flags, older) = mem::replace(out, Column::empty(alloc)).into_parts();
+    let (mut flags, older, mut numbers) = mem::replace(out, Column::empty(alloc)).into_memory(
+        alloc,
+    );
     flags.resize(rows as usize, false)?;
     fill_flags(present, feed, &mut flags)?;
-    let typed = values.fill(alloc, feed, &flags, older)?;
-    *out = Column::new(flags, typed);
+    let count = count_present(&flags);
+    let typed = values.fill(alloc, feed, &flags, count, older, &mut numbers)?;
+    *out = Column::with_numbers(flags, count, typed, numbers);
     Ok(())
 }

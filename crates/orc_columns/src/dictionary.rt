@@ -1,6 +1,6 @@
 //! Texts of a dictionary.
 ghost use Rattle.std.specs.Prelude.{◌≡◌, ◌∷◌, ◌<◌, ◌≤◌, ◌^◌, ℕ, [], length, map, sum, unsigned_abs, All, Contains};
-ghost use Rattle.std.specs.Prelude.{OnOk, IfOk, IfErr, IsTrue, IsFalse};
+ghost use Rattle.std.specs.Prelude.{ℤ, List, OnOk, IfOk, IfErr, IsTrue, IsFalse};
 ghost use Rattle.std.specs.Int.{w64, cast_unsigned, IsNonNegative};
 ghost use Rattle.outside.specs.Reading.{placed};
 ghost use Rattle.orc_values.specs.Texts.{running_ends};
@@ -8,6 +8,7 @@ ghost use Rattle.orc_columns.specs.declared.fault.ColumnFault.TheVariants as fau
 ghost use Rattle.orc_columns.specs.Column.{places_of};
 ghost use Rattle.orc_columns.specs.Entries.{row_texts, chosen, IsOutOf, LengthsRead};
 ghost use Rattle.orc_values.specs.Column.{entries_in};
+ghost use Rattle.orc_values.specs.Dense.{AreKept};
 ghost use Rattle.orc_values.specs.Woven.{present_count};
 ghost use Rattle.orc_columns.specs.declared.plan.ColumnPlan.{ColumnPlan};
 ghost use Rattle.orc_columns.specs.declared.value_reader.ValueReader.TheVariants as reader;
@@ -26,7 +27,7 @@ use crate::lengths::total_of;
 use crate::plan::ColumnPlan;
 use crate::spelling::Version;
 use crate::text_bytes::read_bytes;
-use orc_values::{ColumnValues, Texts, count_present};
+use orc_values::{ColumnValues, Texts};
 use outside::{Feed, NoMemory};
 use std::alloc::Global;
 
@@ -45,12 +46,15 @@ pub(crate) fn dictionary_rows<F: Feed>(
     alloc: Global,
     feed: &mut F,
     flags: &[bool],
+    count: usize,
     older: ColumnValues,
 ) -> Result<ColumnValues, ColumnFault>
-    requires { length flags.now ≤ 1024 }
+    requires few { length flags.now ≤ 1024 }
+    requires counted { count ≡ present_count flags.now }
     ensures spelling { spelling_in (reader.Dictionary dictionary.new) ≡ spelling_in (reader.Dictionary dictionary.old) }
     ensures rows { IfOk result (λ typed. entries_in typed ≡ length flags.now) }
     ensures typed { IfOk result (IsTyped (spelling_in (reader.Dictionary dictionary.old))) }
+    ensures kept { (numbers : List ℤ) → IfOk result (λ typed. AreKept flags.now typed numbers) }
     ensures ready { (plan : ColumnPlan) → ReadsPlan plan (reader.Dictionary dictionary.old)
         → OnOk result (ReadsPlan plan (reader.Dictionary dictionary.new)) }
     ensures no_read { IfErr result HoldsNoRead }
@@ -59,7 +63,6 @@ pub(crate) fn dictionary_rows<F: Feed>(
         (ValuesGoOn plan.dictionary_size flags.now (reader.Dictionary dictionary.old) (reader.Dictionary dictionary.new))
         (ValuesBreak plan.dictionary_size (present_count flags.now) (reader.Dictionary dictionary.old)) result }
 {
-    let count = count_present(flags);
     let mut places = [0; BATCH];
     fill_numbers(&mut dictionary.places, feed, &mut places, count)?;
     let (places, _) = places.split_at(count);

@@ -1,9 +1,9 @@
 //! Why a column can't be read.
 ghost use Rattle.std.specs.Prelude.{◌≡◌};
 ghost use Rattle.orc_columns.specs.Draws.{of_run};
-ghost use Rattle.orc_columns.specs.declared.fault.ColumnFault.TheVariants.{Read, NoMemory};
+ghost use Rattle.orc_columns.specs.declared.fault.ColumnFault.TheVariants as fault;
 
-use outside::{Failed, RunFault};
+use outside::{Failed, NoMemory, RunFault};
 use std::alloc::{AllocError, AllocFailed};
 
 /// A stream of a column that is made of runs.
@@ -42,15 +42,23 @@ pub enum ColumnFault {
 }
 
 impl From<Failed> for ColumnFault {
-    ghost from_gives = { λ failed e. e ≡ Read failed };
+    ghost from_gives = { λ failed e. e ≡ fault.Read failed };
 
     fn from(failed: Failed) -> ColumnFault {
         ColumnFault::Read(failed)
     }
 }
 
+impl From<NoMemory> for ColumnFault {
+    ghost from_gives = { λ _ e. e ≡ fault.NoMemory };
+
+    fn from(_error: NoMemory) -> ColumnFault {
+        ColumnFault::NoMemory
+    }
+}
+
 impl From<AllocError> for ColumnFault {
-    ghost from_gives = { λ _ e. e ≡ NoMemory };
+    ghost from_gives = { λ _ e. e ≡ fault.NoMemory };
 
     fn from(_error: AllocError) -> ColumnFault {
         ColumnFault::NoMemory
@@ -58,7 +66,7 @@ impl From<AllocError> for ColumnFault {
 }
 
 impl<T: Drop> From<AllocFailed<T>> for ColumnFault {
-    ghost from_gives = { λ _ e. e ≡ NoMemory };
+    ghost from_gives = { λ _ e. e ≡ fault.NoMemory };
 
     fn from(_error: AllocFailed<T>) -> ColumnFault {
         ColumnFault::NoMemory

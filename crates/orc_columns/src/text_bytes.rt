@@ -28,7 +28,6 @@ pub(crate) fn read_bytes<F: Feed>(
         Draws F.rest F.fed F.fault_count plan (alone plan.dictionary) feed.old feed.new
         (DictionaryTaken count) (DictionaryShort count) (placed bytes.new.items result) }
 {
-    bytes.clear();
     bytes.resize(count as usize, 0)?;
     take_bytes(feed, stream, bytes)
 }

@@ -1,7 +1,8 @@
 //! Texts that are spelled one by one.
-ghost use Rattle.std.specs.Prelude.{◌≡◌, ◌∷◌, ◌≤◌, length, map, sum, unsigned_abs, All, OnOk, IfOk, IfErr};
+ghost use Rattle.std.specs.Prelude.{◌≡◌, ◌∷◌, ◌≤◌, ℤ, List, length, map, sum, unsigned_abs, All, OnOk, IfOk, IfErr};
 ghost use Rattle.std.specs.Int.{IsNonNegative};
 ghost use Rattle.orc_values.specs.Column.{entries_in};
+ghost use Rattle.orc_values.specs.Dense.{AreKept};
 ghost use Rattle.orc_values.specs.Texts.{slices};
 ghost use Rattle.orc_values.specs.Woven.{present_count, woven, aligned};
 ghost use Rattle.orc_columns.specs.declared.plan.ColumnPlan.{ColumnPlan};
@@ -16,7 +17,7 @@ use crate::fault::ColumnFault;
 use crate::integers::Integers;
 use crate::lengths::next_lengths;
 use crate::text_bytes::read_bytes;
-use orc_values::{ColumnValues, Texts, count_present, lay_ends};
+use orc_values::{ColumnValues, Texts, lay_ends};
 use outside::Feed;
 use std::alloc::Global;
 
@@ -37,12 +38,15 @@ pub(crate) fn text_rows<F: Feed>(
     alloc: Global,
     feed: &mut F,
     flags: &[bool],
+    count: usize,
     older: ColumnValues,
 ) -> Result<ColumnValues, ColumnFault>
-    requires { length flags.now ≤ 1024 }
+    requires few { length flags.now ≤ 1024 }
+    requires counted { count ≡ present_count flags.now }
     ensures spelling { spelling_in (reader.Texts texts.new) ≡ spelling_in (reader.Texts texts.old) }
     ensures rows { IfOk result (λ typed. entries_in typed ≡ length flags.now) }
     ensures typed { IfOk result (IsTyped (spelling_in (reader.Texts texts.old))) }
+    ensures kept { (numbers : List ℤ) → IfOk result (λ typed. AreKept flags.now typed numbers) }
     ensures ready { (plan : ColumnPlan) → ReadsPlan plan (reader.Texts texts.old) → OnOk result (ReadsPlan plan (reader.Texts texts.new)) }
     ensures no_read { IfErr result HoldsNoRead }
     ensures draws { (plan : ColumnPlan) → StreamsDiffer plan → ReadsPlan plan (reader.Texts texts.old) →
@@ -51,9 +55,7 @@ pub(crate) fn text_rows<F: Feed>(
         (ValuesBreak plan.dictionary_size (present_count flags.now) (reader.Texts texts.old)) result }
 {
     let (mut bytes, mut ends) = text_memory(alloc, older);
-    ends.clear();
     ends.resize(flags.len(), 0)?;
-    let count = count_present(flags);
     let mut lengths = [0; BATCH];
     let total = next_lengths(&mut texts.lengths, feed, &mut lengths, count, texts.left)?;
     read_bytes(feed, texts.data, &mut bytes, total)?;

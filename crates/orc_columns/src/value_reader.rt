@@ -1,6 +1,7 @@
 //! The values of a column that aren't null, a batch at a time.
-ghost use Rattle.std.specs.Prelude.{◌≡◌, ◌≤◌, [], length, Some, OnOk, IfOk, IfErr};
+ghost use Rattle.std.specs.Prelude.{◌≡◌, ◌≤◌, ℤ, List, [], length, Some, OnOk, IfOk, IfErr};
 ghost use Rattle.orc_values.specs.Column.{entries_in};
+ghost use Rattle.orc_values.specs.Dense.{AreKept};
 ghost use Rattle.orc_values.specs.Woven.{present_count};
 ghost use Rattle.orc_columns.specs.declared.plan.ColumnPlan.{ColumnPlan};
 ghost use Rattle.orc_columns.specs.declared.value_reader.ValueReader.TheVariants as reader;
@@ -18,7 +19,7 @@ use crate::integers::Integers;
 use crate::plan::ColumnPlan;
 use crate::spelling::Spelling;
 use crate::text_reader::{TextReader, text_rows};
-use orc_values::{ColumnValues, count_present, spread};
+use orc_values::{ColumnValues, spread, spread_numbers};
 use outside::Feed;
 use std::alloc::Global;
 
@@ -32,18 +33,24 @@ pub(crate) enum ValueReader {
 }
 
 impl ValueReader {
-    /// The rows of the next batch, in the memory of an older one: a value for each flag that is set.
+    /// The rows of the next batch, in the memory of an older one: a value for each flag that is set, of which there are `count`.
+    ///
+    /// Of numbers, where a row is null, it leaves those that aren't in `numbers`, one behind the other.
     pub(crate) fn fill<F: Feed>(
         &mut self,
         alloc: Global,
         feed: &mut F,
         flags: &[bool],
+        count: usize,
         older: ColumnValues,
+        numbers: &mut Vec<i64>,
     ) -> Result<ColumnValues, ColumnFault>
-        requires { length flags.now ≤ 1024 }
+        requires few { length flags.now ≤ 1024 }
+        requires counted { count ≡ present_count flags.now }
         ensures spelling { spelling_in self.new ≡ spelling_in self.old }
         ensures rows { IfOk result (λ typed. entries_in typed ≡ length flags.now) }
         ensures typed { IfOk result (IsTyped (spelling_in self.old)) }
+        ensures kept { IfOk result (λ typed. AreKept flags.now typed numbers.new.items) }
         ensures ready { (plan : ColumnPlan) → ReadsPlan plan self.old → OnOk result (ReadsPlan plan self.new) }
         ensures no_read { IfErr result HoldsNoRead }
         ensures draws { (plan : ColumnPlan) → StreamsDiffer plan → ReadsPlan plan self.old →
@@ -52,11 +59,13 @@ impl ValueReader {
             (ValuesBreak plan.dictionary_size (present_count flags.now) self.old) result }
     {
         match self {
-            ValueReader::Bits(bits) => bit_rows(bits, alloc, feed, flags, older),
-            ValueReader::Integers(integers) => number_rows(integers, alloc, feed, flags, older),
-            ValueReader::Texts(texts) => text_rows(texts, alloc, feed, flags, older),
+            ValueReader::Bits(bits) => bit_rows(bits, alloc, feed, flags, count, older),
+            ValueReader::Integers(integers) => {
+                number_rows(integers, alloc, feed, flags, count, older, numbers)
+            }
+            ValueReader::Texts(texts) => text_rows(texts, alloc, feed, flags, count, older),
             ValueReader::Dictionary(dictionary) => {
-                dictionary_rows(dictionary, alloc, feed, flags, older)
+                dictionary_rows(dictionary, alloc, feed, flags, count, older)
             }
         }
     }
@@ -104,10 +113,13 @@ fn bit_rows<F: Feed>(
     alloc: Global,
     feed: &mut F,
     flags: &[bool],
+    count: usize,
     older: ColumnValues,
 ) -> Result<ColumnValues, ColumnFault>
+    requires counted { count ≡ present_count flags.now }
     ensures rows { IfOk result (λ typed. entries_in typed ≡ length flags.now) }
     ensures typed { IfOk result (IsTyped (spelling_in (reader.Bits bits.old))) }
+    ensures kept { (numbers : List ℤ) → IfOk result (λ typed. AreKept flags.now typed numbers) }
     ensures ready { (plan : ColumnPlan) → ReadsPlan plan (reader.Bits bits.old) → OnOk result (ReadsPlan plan (reader.Bits bits.new)) }
     ensures no_read { IfErr result HoldsNoRead }
     ensures draws { (plan : ColumnPlan) → StreamsDiffer plan → ReadsPlan plan (reader.Bits bits.old) →
@@ -116,10 +128,9 @@ fn bit_rows<F: Feed>(
         (ValuesBreak plan.dictionary_size (present_count flags.now) (reader.Bits bits.old)) result }
 {
     let mut entries = bool_memory(alloc, older);
-    entries.clear();
     entries.resize(flags.len(), false)?;
-    fill_bits(bits, feed, &mut entries, count_present(flags))?;
-    spread(flags, &mut entries);
+    fill_bits(bits, feed, &mut entries, count)?;
+    spread(flags, count, &mut entries);
     Ok(ColumnValues::Bools(entries))
 }
 
@@ -129,11 +140,15 @@ fn number_rows<F: Feed>(
     alloc: Global,
     feed: &mut F,
     flags: &[bool],
+    count: usize,
     older: ColumnValues,
+    numbers: &mut Vec<i64>,
 ) -> Result<ColumnValues, ColumnFault>
+    requires counted { count ≡ present_count flags.now }
     ensures spelling { integers.new.version ≡ integers.old.version }
     ensures rows { IfOk result (λ typed. entries_in typed ≡ length flags.now) }
     ensures typed { IfOk result (IsTyped (spelling_in (reader.Integers integers.old))) }
+    ensures kept { IfOk result (λ typed. AreKept flags.now typed numbers.new.items) }
     ensures ready { (plan : ColumnPlan) → ReadsPlan plan (reader.Integers integers.old)
         → OnOk result (ReadsPlan plan (reader.Integers integers.new)) }
     ensures no_read { IfErr result HoldsNoRead }
@@ -144,8 +159,8 @@ fn number_rows<F: Feed>(
 {
     let mut entries = number_memory(alloc, older);
     entries.resize(flags.len(), 0)?;
-    fill_numbers(integers, feed, &mut entries, count_present(flags))?;
-    spread(flags, &mut entries);
+    fill_numbers(integers, feed, &mut entries, count)?;
+    spread_numbers(flags, count, &mut entries, numbers)?;
     Ok(ColumnValues::Ints(entries))
 }
 

@@ -3,3 +3,4 @@ mod Counts
 mod Laid
 mod Places
 mod Spreads
+mod Whole

@@ -4,3 +4,4 @@ pub mod Texts
 pub mod TextsLaws
 pub mod Shown
 pub mod Column
+pub mod Dense

@@ -31,8 +31,8 @@ slices-append at [] more bytes = let e : at + 0 ≡ at = omega arith in ap (λ (
 slices-append at (len ∷ lens) more bytes =
     let e : at + len + sum lens ≡ at + sum (len ∷ lens) = omega (arith, sum-cons len lens) in
     ap (λ (l : List (List ℕ)). slice_range bytes at (at + len) ∷ l)
-        (slices-append (at + len) lens more bytes
-        ∙ ap (λ (n : ℕ). slices (at + len) lens bytes ++ slices n more bytes) e)
+    (slices-append (at + len) lens more bytes
+    ∙ ap (λ (n : ℕ). slices (at + len) lens bytes ++ slices n more bytes) e)
 
 pub texts_from-append : (from : ℕ) (ends more bytes : List ℕ)
     → texts_from from (ends ++ more) bytes ≡ texts_from from ends bytes ++ texts_from (last_end from ends) more bytes
@@ -59,16 +59,16 @@ pub slices-front : (at : ℕ) (lens front back : List ℕ) → at + sum lens ≤
 slices-front at [] front back h = refl
 slices-front at (len ∷ lens) front back h =
     ap (λ (l : List ℕ). l ∷ slices (at + len) lens (front ++ back))
-        (slice_range-front front back at (at + len) (omega arith) (omega (arith, sum-cons len lens)))
+    (slice_range-front front back at (at + len) (omega arith) (omega (arith, sum-cons len lens)))
     ∙ ap (λ (l : List (List ℕ)). slice_range front at (at + len) ∷ l)
-        (slices-front (at + len) lens front back (omega (arith, sum-cons len lens)))
+    (slices-front (at + len) lens front back (omega (arith, sum-cons len lens)))
 
 pub texts_from-front : (from : ℕ) (ends front back : List ℕ) → AreEnds from ends (length front)
     → texts_from from ends (front ++ back) ≡ texts_from from ends front
 texts_from-front from [] front back are = refl
 texts_from-front from (end ∷ ends) front back are =
     ap (λ (l : List ℕ). l ∷ texts_from end ends (front ++ back))
-        (slice_range-front front back from end are.0 (first_le-limit end ends (length front) are.1))
+    (slice_range-front front back from end are.0 (first_le-limit end ends (length front) are.1))
     ∙ ap (λ (l : List (List ℕ)). slice_range front from end ∷ l) (texts_from-front end ends front back are.1)
 
 -- nor do those in front of the place

@@ -4,6 +4,7 @@
 mod column;
 mod column_values;
 mod columns;
+mod dense_values;
 pub mod laws;
 mod rows;
 mod texts;
@@ -12,6 +13,7 @@ mod value;
 pub use column::Column;
 pub use column_values::ColumnValues;
 pub use columns::Columns;
-pub use rows::{count_present, lay_ends, spread};
+pub use dense_values::DenseValues;
+pub use rows::{count_present, lay_ends, spread, spread_numbers};
 pub use texts::Texts;
 pub use value::{Value, ValueRef};

@@ -1,9 +1,12 @@
 //! From the list of the values that stand to one entry for each row.
 
 ghost use Rattle.std.specs.Prelude.{◌≡◌, ◌+◌, ◌<◌, ◌^◌, ℕ, List, length, take, map, sum, unsigned_abs, All};
+ghost use Rattle.std.specs.Prelude.{OnOk, OnErr};
 ghost use Rattle.std.specs.Int.{IsNonNegative};
 ghost use Rattle.orc_values.specs.Woven.{present_count, woven, aligned};
 ghost use Rattle.orc_values.specs.Texts.{texts_from, AreEnds, slices, running_ends, row_lens};
+
+use outside::NoMemory;
 
 /// How many flags are set.
 pub fn count_present(present: &[bool]) -> usize
@@ -19,14 +22,15 @@ pub fn count_present(present: &[bool]) -> usize
 /// Moves values that stand close together to their rows, in place.
 ///
 /// `values` has an entry for each row, and its first entries are the values of the rows whose flag is set, in
-/// order. Afterwards each stands at its row, and the entry of another row is any. Where all flags are set,
-/// nothing moves.
-pub fn spread<T: Copy>(present: &[bool], values: &mut [T])
-    requires { length present.now ≡ length values.old }
+/// order, of which there are `count`. Afterwards each stands at its row, and the entry of another row is any. Where all
+/// flags are set, nothing moves.
+pub fn spread<T: Copy>(present: &[bool], count: usize, values: &mut [T])
+    requires rows { length present.now ≡ length values.old }
+    requires count { count ≡ present_count present.now }
     ensures { aligned present.now values.new ≡ woven present.now (take (present_count present.now) values.old) }
 {
     // From the last row on, a value goes to a row at or behind its place, so none that is still to be moved is lost.
-    let mut from = count_present(present);
+    let mut from = count;
     let mut row = present.len();
     while from < row {
         row -= 1;
@@ -35,6 +39,34 @@ pub fn spread<T: Copy>(present: &[bool], values: &mut [T])
             values[row] = values[from];
         }
     }
+}
+
+/// Moves numbers as `spread` does, and keeps them one behind the other in `kept`, where a row is null.
+///
+/// Answers `NoMemory` only where memory for `kept` was refused, and then nothing moved.
+pub fn spread_numbers(
+    present: &[bool],
+    count: usize,
+    numbers: &mut [i64],
+    kept: &mut Vec<i64>,
+) -> Result<(), NoMemory>
+    requires rows { length present.now ≡ length numbers.old }
+    requires count { count ≡ present_count present.now }
+    ensures spread { OnOk result (aligned present.now numbers.new ≡ woven present.now (take (present_count present.now) numbers.old)) }
+    ensures kept { OnOk result (present_count present.now < length present.now
+        → (length kept.new.items ≡ present_count present.now) × (aligned present.now numbers.new ≡ woven present.now kept.new.items)) }
+    ensures err { OnErr result (numbers.new ≡ numbers.old) }
+{
+    if count == present.len() {
+        return Ok(());
+    }
+    let (dense, _) = numbers.split_at(count);
+    kept.clear();
+    if kept.extend_from_slice(dense).is_err() {
+        return Err(NoMemory);
+    }
+    spread(present, count, numbers);
+    Ok(())
 }
 
 /// Lays the ends of texts for each row: a row whose flag is set is as long as the next of the lengths, and

@@ -47,10 +47,10 @@ returns-in_err-typed-clause-draws g c = λ plan differ on.
     let n : length c.deref_mut.result.now ≡ c.args.rows = c.deref_mut.ensures.len ∙ c.in_ok-resize.ensures.len in
     let flags : List Bool = c.fill_flags.new.flags in
     let len : length flags ≡ c.resize.new.self.len = c.fill_flags.auto.flags ∙ c.deref_mut.ensures.len in
-    let same : c.deref.result.now ≡ flags = c.deref.ensures.value ∙ with_items_is c.resize.new.self flags len in
+    let same : c.deref-2.result.now ≡ flags = c.deref-2.ensures.value ∙ with_items_is c.resize.new.self flags len in
     let p = err_from_is_err_and c.from_residual-in_err-typed.result c.from_residual-in_err-typed.ensures.1 in
     rw (p.1, p.2) (batch_fault f.rest f.fed f.fault_count plan m.fed_lost m.fed_nothing m.fed_joined old new c.args.values.now c.fill.new.self c.args.rows c.args.feed.now c.fill_flags.new.feed c.fill.new.feed
-    flags c.deref.result.now same c.in_err-typed.field-0.0 (ap length same ∙ c.fill_flags.auto.flags ∙ n)
+    flags c.deref-2.result.now same c.in_err-typed.field-0.0 (ap length same ∙ c.fill_flags.auto.flags ∙ n)
     (subst (λ (k : ℕ). Draws f.rest f.fed f.fault_count plan (alone plan.present) c.args.feed.now c.fill_flags.new.feed (FlagsGoOn old new) (FlagsBreak old k) (Ok flags)) n (c.in_ok-fill_flags.ensures.draws plan differ on.on on.fresh))
     (c.in_err-typed.ensures.draws plan differ on.reads))
 
@@ -65,14 +65,14 @@ pub returns-clause-rows : goal.returns-clause-rows
 returns-clause-rows g c =
     let flags : List Bool = c.fill_flags.new.flags in
     let len : length flags ≡ c.resize.new.self.len = c.fill_flags.auto.flags ∙ c.deref_mut.ensures.len in
-    let same : c.deref.result.now ≡ flags = c.deref.ensures.value ∙ with_items_is c.resize.new.self flags len in
-    let made : c.new.result ≡ column_of c.deref.result.now c.in_ok-typed.typed = c.new.ensures ∙ ap (λ (l : List Bool). column_of l c.in_ok-typed.typed) (sym c.deref.ensures.value) in
-    ap length made ∙ length-column_of c.deref.result.now c.in_ok-typed.typed (sym c.in_ok-typed.ensures.rows) ∙ ap length same ∙ len ∙ c.in_ok-resize.ensures.len
+    let same : c.deref-2.result.now ≡ flags = c.deref-2.ensures.value ∙ with_items_is c.resize.new.self flags len in
+    let made : c.with_numbers.result ≡ column_of c.deref-2.result.now c.in_ok-typed.typed = c.with_numbers.ensures ∙ ap (λ (l : List Bool). column_of l c.in_ok-typed.typed) (sym c.deref-2.ensures.value) in
+    ap length made ∙ length-column_of c.deref-2.result.now c.in_ok-typed.typed (sym c.in_ok-typed.ensures.rows) ∙ ap length same ∙ len ∙ c.in_ok-resize.ensures.len
 
 pub returns-clause-kinds : goal.returns-clause-kinds
 returns-clause-kinds g c = λ plan spelled.
-    let made : c.new.result ≡ column_of c.deref.result.now c.in_ok-typed.typed = c.new.ensures ∙ ap (λ (l : List Bool). column_of l c.in_ok-typed.typed) (sym c.deref.ensures.value) in
-    subst (λ (l : List Value). All (IsOfKind plan.kind) l) (sym made) (rows_of_kind plan.kind plan.encoding _ c.deref.result.now c.in_ok-typed.typed spelled c.in_ok-typed.ensures.typed)
+    let made : c.with_numbers.result ≡ column_of c.deref-2.result.now c.in_ok-typed.typed = c.with_numbers.ensures ∙ ap (λ (l : List Bool). column_of l c.in_ok-typed.typed) (sym c.deref-2.ensures.value) in
+    subst (λ (l : List Value). All (IsOfKind plan.kind) l) (sym made) (rows_of_kind plan.kind plan.encoding _ c.deref-2.result.now c.in_ok-typed.typed spelled c.in_ok-typed.ensures.typed)
 
 pub returns-clause-draws : goal.returns-clause-draws
 returns-clause-draws g c = λ plan differ on.
@@ -83,9 +83,9 @@ returns-clause-draws g c = λ plan differ on.
     let n : length c.deref_mut.result.now ≡ c.args.rows = c.deref_mut.ensures.len ∙ c.in_ok-resize.ensures.len in
     let flags : List Bool = c.fill_flags.new.flags in
     let len : length flags ≡ c.resize.new.self.len = c.fill_flags.auto.flags ∙ c.deref_mut.ensures.len in
-    let same : c.deref.result.now ≡ flags = c.deref.ensures.value ∙ with_items_is c.resize.new.self flags len in
-    let made : c.new.result ≡ column_of c.deref.result.now c.in_ok-typed.typed = c.new.ensures ∙ ap (λ (l : List Bool). column_of l c.in_ok-typed.typed) (sym c.deref.ensures.value) in
+    let same : c.deref-2.result.now ≡ flags = c.deref-2.ensures.value ∙ with_items_is c.resize.new.self flags len in
+    let made : c.with_numbers.result ≡ column_of c.deref-2.result.now c.in_ok-typed.typed = c.with_numbers.ensures ∙ ap (λ (l : List Bool). column_of l c.in_ok-typed.typed) (sym c.deref-2.ensures.value) in
     batch_ok f.rest f.fed f.fault_count plan m.fed_lost m.fed_nothing m.fed_joined old new c.args.values.now c.fill.new.self c.args.rows c.args.feed.now c.fill_flags.new.feed c.fill.new.feed
-    flags c.deref.result.now same c.in_ok-typed.typed c.new.result c.fill.ensures.spelling made
+    flags c.deref-2.result.now same c.in_ok-typed.typed c.with_numbers.result c.fill.ensures.spelling made
     (subst (λ (k : ℕ). Draws f.rest f.fed f.fault_count plan (alone plan.present) c.args.feed.now c.fill_flags.new.feed (FlagsGoOn old new) (FlagsBreak old k) (Ok flags)) n (c.in_ok-fill_flags.ensures.draws plan differ on.on on.fresh))
     (c.in_ok-typed.ensures.draws plan differ on.reads)

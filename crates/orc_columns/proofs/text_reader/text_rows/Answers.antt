@@ -21,12 +21,12 @@ returns-in_err-resize-clause-draws g c = λ plan differ on.
     rw (p.1, p.2) (Draws-refused f.rest f.fed f.fault_count plan m.fed_lost m.fed_nothing m.fed_joined c.args.feed.now _ _ NoMemory (λ no. no) (λ s t. tt))
 
 pub next_lengths-requires : goal.next_lengths-requires
-next_lengths-requires g c = omega (arith, present_count-le c.args.flags.now, c.count_present-count.ensures, c.requires)
+next_lengths-requires g c = omega (arith, present_count-le c.args.flags.now, c.requires.counted, c.requires.few)
 
 pub split_at-requires : goal.split_at-requires
 split_at-requires g c =
     let len : length c.next_lengths.new.entries ≡ 1024 = c.next_lengths.ensures.len in
-    omega (arith, present_count-le c.args.flags.now, c.count_present-count.ensures, c.requires, len)
+    omega (arith, present_count-le c.args.flags.now, c.requires.counted, c.requires.few, len)
 
 pub returns-in_err-total-clause-draws : goal.returns-in_err-total-clause-draws
 returns-in_err-total-clause-draws g c = λ plan differ on.
@@ -35,7 +35,7 @@ returns-in_err-total-clause-draws g c = λ plan differ on.
     let t = c.args.texts.now in
     let old = t.lengths in
     let new = c.next_lengths.new.lengths in
-    let n = c.count_present-count.result in
+    let n = c.args.count in
     let flags = c.args.flags.now in
     let size = plan.dictionary_size in
     let p = err_from_is_err_and c.from_residual-in_err-total.result c.from_residual-in_err-total.ensures.1 in
@@ -44,7 +44,7 @@ returns-in_err-total-clause-draws g c = λ plan differ on.
     (Draws-fault f.rest f.fed f.fault_count plan m.fed_lost m.fed_nothing m.fed_joined c.args.feed.now c.next_lengths.new.feed
     (LengthsGoOn old new) (ValuesGoOn size flags (reader_of old t.«data» t.left) (reader_of new t.«data» t.left))
     (LengthsRefuse old n t.left) (ValuesBreak size (present_count flags) (reader_of old t.«data» t.left)) c.in_err-total.field-0.0
-    (λ b fault tells refuse. texts_refuse size n flags old new t.«data» t.left 0 [] on.1 c.count_present-count.ensures b fault refuse)
+    (λ b fault tells refuse. texts_refuse size n flags old new t.«data» t.left 0 [] on.1 c.requires.counted b fault refuse)
     (c.in_err-total.ensures.draws plan differ on.0 on.1 on.2)))
 
 pub returns-in_err-read_bytes-clause-draws : goal.returns-in_err-read_bytes-clause-draws
@@ -52,10 +52,10 @@ returns-in_err-read_bytes-clause-draws g c = λ plan differ on.
     let f = g.F.Feed in
     let m = g.met.F.Feed in
     let t = c.args.texts.now in
-    let n = c.count_present-count.result in
+    let n = c.args.count in
     let numbers : List ℤ = take n c.next_lengths.new.entries in
     let p = err_from_is_err_and c.from_residual-in_err-read_bytes.result c.from_residual-in_err-read_bytes.ensures.1 in
-    rw (p.1, p.2) (texts_fault plan.dictionary_size n c.args.flags.now t.lengths c.next_lengths.new.lengths t.«data» t.left c.in_ok-total.total numbers on.1 c.count_present-count.ensures
+    rw (p.1, p.2) (texts_fault plan.dictionary_size n c.args.flags.now t.lengths c.next_lengths.new.lengths t.«data» t.left c.in_ok-total.total numbers on.1 c.requires.counted
     f.rest f.fed f.fault_count plan m.fed_lost m.fed_nothing m.fed_joined c.args.feed.now c.next_lengths.new.feed c.read_bytes.new.feed c.in_ok-total.ensures.total
     _ c.in_err-read_bytes.field-0.0 (c.in_ok-total.ensures.draws plan differ on.0 on.1 on.2) (c.in_err-read_bytes.ensures.body plan differ on.3))
 
@@ -64,12 +64,12 @@ returns-clause-draws g c = λ plan differ on.
     let f = g.F.Feed in
     let m = g.met.F.Feed in
     let t = c.args.texts.now in
-    let n = c.count_present-count.result in
+    let n = c.args.count in
     let entries : List ℤ = c.next_lengths.new.entries in
     let numbers : List ℤ = take n entries in
     let made : length entries ≡ 1024 = c.next_lengths.ensures.len in
-    let len : length numbers ≡ n = length-take-le n entries (omega (arith, present_count-le c.args.flags.now, c.count_present-count.ensures, c.requires, made)) in
+    let len : length numbers ≡ n = length-take-le n entries (omega (arith, present_count-le c.args.flags.now, c.requires.counted, c.requires.few, made)) in
     let kind : Option (List ℕ) → Value = value_by (λ (t : List ℕ). value.Text t) in
-    texts_ok plan.dictionary_size n c.args.flags.now t.lengths c.next_lengths.new.lengths t.«data» t.left c.in_ok-total.total numbers on.1 c.count_present-count.ensures
+    texts_ok plan.dictionary_size n c.args.flags.now t.lengths c.next_lengths.new.lengths t.«data» t.left c.in_ok-total.total numbers on.1 c.requires.counted
     f.rest f.fed f.fault_count plan m.fed_lost m.fed_nothing m.fed_joined c.args.feed.now c.next_lengths.new.feed c.read_bytes.new.feed c.in_ok-total.ensures.total
     c.read_bytes.new.bytes.items _ c.next_lengths.ensures.version len (rw (← c.split_at.ensures.front) (ap (map kind) c.laid_texts.ensures.texts)) (c.in_ok-total.ensures.draws plan differ on.0 on.1 on.2) (c.in_ok-read_bytes.ensures.body plan differ on.3)

@@ -19,7 +19,7 @@ returns-in_err-resize-clause-draws g c = λ plan differ on.
     rw (p.1, p.2) (Draws-refused f.rest f.fed f.fault_count plan m.fed_lost m.fed_nothing m.fed_joined c.args.feed.now _ _ NoMemory (λ no. no) (λ s t. tt))
 
 pub fill_bits-requires : goal.fill_bits-requires
-fill_bits-requires g c = omega (arith, present_count-le c.args.flags.now, c.count_present.ensures, c.deref_mut.ensures.len, c.in_ok-resize.ensures.len)
+fill_bits-requires g c = omega (arith, present_count-le c.args.flags.now, c.requires.counted, c.deref_mut.ensures.len, c.in_ok-resize.ensures.len)
 
 pub returns-in_err-fill_bits-clause-draws : goal.returns-in_err-fill_bits-clause-draws
 returns-in_err-fill_bits-clause-draws g c = λ plan differ on.
@@ -27,13 +27,13 @@ returns-in_err-fill_bits-clause-draws g c = λ plan differ on.
     let m = g.met.F.Feed in
     let old = c.args.bits.now in
     let new = c.fill_bits.new.bits in
-    let n = c.count_present.result in
+    let n = c.args.count in
     let flags = c.args.flags.now in
     let p = err_from_is_err_and c.from_residual-in_err-fill_bits.result c.from_residual-in_err-fill_bits.ensures.1 in
     rw (p.1, p.2) (Draws-fault f.rest f.fed f.fault_count plan m.fed_lost m.fed_nothing m.fed_joined c.args.feed.now c.fill_bits.new.feed
     (BitsGoOn old new) (ValuesGoOn plan.dictionary_size flags (reader.Bits old) (reader.Bits new))
     (BitsBreak old n) (ValuesBreak plan.dictionary_size (present_count flags) (reader.Bits old)) c.in_err-fill_bits.field-0.0
-    (λ b fault tells breaks. bits_break plan.dictionary_size n flags old b fault c.count_present.ensures breaks)
+    (λ b fault tells breaks. bits_break plan.dictionary_size n flags old b fault c.requires.counted breaks)
     (c.in_err-fill_bits.ensures.draws plan differ on.0 on.1))
 
 pub returns-clause-draws : goal.returns-clause-draws
@@ -42,15 +42,15 @@ returns-clause-draws g c = λ plan differ on.
     let m = g.met.F.Feed in
     let old = c.args.bits.now in
     let new = c.fill_bits.new.bits in
-    let n = c.count_present.result in
+    let n = c.args.count in
     let flags = c.args.flags.now in
     let entries : List Bool = c.fill_bits.new.entries in
     let kind : Bool → Value = λ (b : Bool). value.Bool b in
     let filled : length entries ≡ c.resize.new.self.len = c.fill_bits.ensures.len ∙ c.deref_mut.ensures.len in
     let spread : length c.spread.new.values ≡ c.resize.new.self.len = c.spread.auto.values ∙ c.deref_mut-2.ensures.len in
-    let within : n ≤ length entries = omega (arith, present_count-le flags, c.count_present.ensures, c.fill_bits.ensures.len, c.deref_mut.ensures.len, c.in_ok-resize.ensures.len) in
+    let within : n ≤ length entries = omega (arith, present_count-le flags, c.requires.counted, c.fill_bits.ensures.len, c.deref_mut.ensures.len, c.in_ok-resize.ensures.len) in
     Draws-ok f.rest f.fed f.fault_count plan m.fed_lost m.fed_nothing m.fed_joined c.args.feed.now c.fill_bits.new.feed
     (BitsGoOn old new) (ValuesGoOn plan.dictionary_size flags (reader.Bits old) (reader.Bits new))
     (BitsBreak old n) (ValuesBreak plan.dictionary_size (present_count flags) (reader.Bits old)) (take n entries) _
-    (λ b a tells goes. bits_go plan.dictionary_size n flags old new b a entries _ c.count_present.ensures within (spread_rows kind flags n c.resize.new.self entries c.deref_mut-2.result.now c.spread.new.values filled spread c.deref_mut-2.ensures.value c.spread.ensures c.count_present.ensures) goes)
+    (λ b a tells goes. bits_go plan.dictionary_size n flags old new b a entries _ c.requires.counted within (spread_rows kind flags n c.resize.new.self entries c.deref_mut-2.result.now c.spread.new.values filled spread c.deref_mut-2.ensures.value c.spread.ensures c.requires.counted) goes)
     (c.in_ok-fill_bits.ensures.draws plan differ on.0 on.1)

@@ -8,7 +8,7 @@ use Rattle.orc_columns.specs.declared.fault.ColumnFault.TheVariants.{NoMemory}
 use Rattle.orc_columns.specs.declared.value_reader.ValueReader.TheVariants as reader
 use Rattle.orc_columns.specs.Batches.{NumbersGoOn, NumbersBreak, ValuesGoOn, ValuesBreak}
 use Rattle.orc_columns.proofs.DenseRows.{spread_rows, numbers_go, numbers_break}
-use Rattle.orc_columns.proofs.Drawing.{Draws-ok, Draws-fault, Draws-refused}
+use Rattle.orc_columns.proofs.Drawing.{Draws-ok, Draws-fault, Draws-refused, Draws-stops}
 use Rattle.orc_columns.proofs.value_reader.number_rows.Goals as goal
 
 pub returns-in_err-resize-clause-draws : goal.returns-in_err-resize-clause-draws
@@ -19,7 +19,7 @@ returns-in_err-resize-clause-draws g c = λ plan differ on.
     rw (p.1, p.2) (Draws-refused f.rest f.fed f.fault_count plan m.fed_lost m.fed_nothing m.fed_joined c.args.feed.now _ _ NoMemory (λ no. no) (λ s t. tt))
 
 pub fill_numbers-requires : goal.fill_numbers-requires
-fill_numbers-requires g c = omega (arith, present_count-le c.args.flags.now, c.count_present.ensures, c.deref_mut.ensures.len, c.in_ok-resize.ensures.len)
+fill_numbers-requires g c = omega (arith, present_count-le c.args.flags.now, c.requires.counted, c.deref_mut.ensures.len, c.in_ok-resize.ensures.len)
 
 pub returns-in_err-fill_numbers-clause-draws : goal.returns-in_err-fill_numbers-clause-draws
 returns-in_err-fill_numbers-clause-draws g c = λ plan differ on.
@@ -27,14 +27,28 @@ returns-in_err-fill_numbers-clause-draws g c = λ plan differ on.
     let m = g.met.F.Feed in
     let old = c.args.integers.now in
     let new = c.fill_numbers.new.integers in
-    let n = c.count_present.result in
+    let n = c.args.count in
     let flags = c.args.flags.now in
     let p = err_from_is_err_and c.from_residual-in_err-fill_numbers.result c.from_residual-in_err-fill_numbers.ensures.1 in
     rw (p.1, p.2) (Draws-fault f.rest f.fed f.fault_count plan m.fed_lost m.fed_nothing m.fed_joined c.args.feed.now c.fill_numbers.new.feed
     (NumbersGoOn old new) (ValuesGoOn plan.dictionary_size flags (reader.Integers old) (reader.Integers new))
     (NumbersBreak old n) (ValuesBreak plan.dictionary_size (present_count flags) (reader.Integers old)) c.in_err-fill_numbers.field-0.0
-    (λ b fault tells breaks. numbers_break plan.dictionary_size n flags old b fault on.1 c.count_present.ensures breaks)
+    (λ b fault tells breaks. numbers_break plan.dictionary_size n flags old b fault on.1 c.requires.counted breaks)
     (c.in_err-fill_numbers.ensures.draws plan differ on.0 on.2))
+
+pub returns-in_err-spread_numbers-clause-draws : goal.returns-in_err-spread_numbers-clause-draws
+returns-in_err-spread_numbers-clause-draws g c = λ plan differ on.
+    let f = g.F.Feed in
+    let m = g.met.F.Feed in
+    let old = c.args.integers.now in
+    let new = c.fill_numbers.new.integers in
+    let n = c.args.count in
+    let flags = c.args.flags.now in
+    let p = err_from_is_err_and c.from_residual-in_err-spread_numbers.result c.from_residual-in_err-spread_numbers.ensures.1 in
+    rw (p.1, p.2) (Draws-stops f.rest f.fed f.fault_count plan m.fed_lost m.fed_nothing m.fed_joined c.args.feed.now c.fill_numbers.new.feed
+    (NumbersGoOn old new) (ValuesGoOn plan.dictionary_size flags (reader.Integers old) (reader.Integers new))
+    (NumbersBreak old n) (ValuesBreak plan.dictionary_size (present_count flags) (reader.Integers old)) (take n c.fill_numbers.new.entries) NoMemory
+    (λ no. no) (λ b a tells goes. tt) (c.in_ok-fill_numbers.ensures.draws plan differ on.0 on.2))
 
 pub returns-clause-draws : goal.returns-clause-draws
 returns-clause-draws g c = λ plan differ on.
@@ -42,15 +56,15 @@ returns-clause-draws g c = λ plan differ on.
     let m = g.met.F.Feed in
     let old = c.args.integers.now in
     let new = c.fill_numbers.new.integers in
-    let n = c.count_present.result in
+    let n = c.args.count in
     let flags = c.args.flags.now in
     let entries : List ℤ = c.fill_numbers.new.entries in
     let kind : ℤ → Value = λ (n : ℤ). value.Int n in
     let filled : length entries ≡ c.resize.new.self.len = c.fill_numbers.ensures.len ∙ c.deref_mut.ensures.len in
-    let spread : length c.spread.new.values ≡ c.resize.new.self.len = c.spread.auto.values ∙ c.deref_mut-2.ensures.len in
-    let within : n ≤ length entries = omega (arith, present_count-le flags, c.count_present.ensures, c.fill_numbers.ensures.len, c.deref_mut.ensures.len, c.in_ok-resize.ensures.len) in
+    let spread : length c.spread_numbers.new.numbers ≡ c.resize.new.self.len = c.spread_numbers.auto.numbers ∙ c.deref_mut-2.ensures.len in
+    let within : n ≤ length entries = omega (arith, present_count-le flags, c.requires.counted, c.fill_numbers.ensures.len, c.deref_mut.ensures.len, c.in_ok-resize.ensures.len) in
     Draws-ok f.rest f.fed f.fault_count plan m.fed_lost m.fed_nothing m.fed_joined c.args.feed.now c.fill_numbers.new.feed
     (NumbersGoOn old new) (ValuesGoOn plan.dictionary_size flags (reader.Integers old) (reader.Integers new))
     (NumbersBreak old n) (ValuesBreak plan.dictionary_size (present_count flags) (reader.Integers old)) (take n entries) _
-    (λ b a tells goes. numbers_go plan.dictionary_size n flags old new b a entries _ on.1 c.fill_numbers.ensures.version c.count_present.ensures within (spread_rows kind flags n c.resize.new.self entries c.deref_mut-2.result.now c.spread.new.values filled spread c.deref_mut-2.ensures.value c.spread.ensures c.count_present.ensures) goes)
+    (λ b a tells goes. numbers_go plan.dictionary_size n flags old new b a entries _ on.1 c.fill_numbers.ensures.version c.requires.counted within (spread_rows kind flags n c.resize.new.self entries c.deref_mut-2.result.now c.spread_numbers.new.numbers filled spread c.deref_mut-2.ensures.value c.in_ok-spread_numbers.ensures.spread c.requires.counted) goes)
     (c.in_ok-fill_numbers.ensures.draws plan differ on.0 on.2)

@@ -14,7 +14,7 @@ loop-from-preserved-then-present-row g c =
     record {
       within = omega (arith, l.invariant.within);
       spread = spread_set c.args.present.now c.args.values.now l.values l.row (l.row - 1) l.from (l.from - 1) c.index-values-from.result (omega arith) (omega arith) l.invariant.within
-          (omega (arith, l.auto.values, c.requires)) (omega (arith, c.requires)) c.if-present-row.true c.index-values-from.is l.invariant.spread;
+          (omega (arith, l.auto.values, c.requires.rows)) (omega (arith, c.requires.rows)) c.if-present-row.true c.index-values-from.is l.invariant.spread;
     }
 
 pub loop-from-preserved : goal.loop-from-preserved
@@ -22,10 +22,10 @@ loop-from-preserved g c =
     let l = c.loop-from in
     record {
       within = omega (arith, l.invariant.within);
-      spread = spread_unset c.args.present.now c.args.values.now l.values l.row (l.row - 1) l.from (omega arith) l.invariant.within (omega (arith, l.auto.values, c.requires)) c.if-present-row.false l.invariant.spread;
+      spread = spread_unset c.args.present.now c.args.values.now l.values l.row (l.row - 1) l.from (omega arith) l.invariant.within (omega (arith, l.auto.values, c.requires.rows)) c.if-present-row.false l.invariant.spread;
     }
 
 pub returns : goal.returns
 returns g c =
     let l = c.loop-from in
-    spread_ends c.args.present.now c.args.values.now l.values l.row l.from c.loop-from-test.false l.invariant.within (omega (arith, l.auto.values, c.requires)) (omega (arith, c.requires)) l.invariant.spread
+    spread_ends c.args.present.now c.args.values.now l.values l.row l.from c.loop-from-test.false l.invariant.within (omega (arith, l.auto.values, c.requires.rows)) (omega (arith, c.requires.rows)) l.invariant.spread

@@ -5,5 +5,5 @@ use Rattle.orc_values.proofs.column.Column.present.Goals as goal
 pub returns : goal.returns
 returns c =
     let s = c.self.inside in
-    let seen = column-present s.present.items s.values c.self.invariant in
+    let seen = column-present s.present.items s.values c.self.invariant.0 in
     rw (← c.self.view_is) (rw seen (search rules))

@@ -4,9 +4,9 @@ use Rattle.orc_values.proofs.column.Column.values.Goals as goal
 pub returns-clause-rows : goal.returns-clause-rows
 returns-clause-rows c =
     let s = c.self.inside in
-    rw (← c.self.view_is) (column-rows s.present.items s.values c.self.invariant)
+    rw (← c.self.view_is) (column-rows s.present.items s.values c.self.invariant.0)
 
 pub returns-clause-values : goal.returns-clause-values
 returns-clause-values c =
     let s = c.self.inside in
-    rw (← c.self.view_is) (column-again s.present.items s.values c.self.invariant)
+    rw (← c.self.view_is) (column-again s.present.items s.values c.self.invariant.0)
