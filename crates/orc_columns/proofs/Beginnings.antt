@@ -11,10 +11,11 @@ use Rattle.orc_columns.specs.declared.value_reader.ValueReader.{ValueReader}
 use Rattle.orc_columns.specs.declared.value_reader.ValueReader.TheVariants as reader
 use Rattle.orc_columns.specs.Batches.{ValuesBegin, ValuesFailAtStart, EntriesRead}
 use Rattle.orc_columns.specs.Column.{Streams, ArePresent, AreLengths, values}
-use Rattle.orc_columns.specs.Decoders.{BitsOf, IntegersOf, new_present, first_state}
+use Rattle.row_flags.specs.Decoders.{BitsOf, new_present, first_state}
+use Rattle.orc_columns.specs.Decoders.{IntegersOf}
 use Rattle.orc_columns.specs.Midway.{spelling_in}
-use Rattle.orc_columns.specs.Optional.{rest_in}
-use Rattle.orc_columns.specs.Present.{PresentBetween}
+use Rattle.row_flags.specs.Optional.{rest_in}
+use Rattle.row_flags.specs.Present.{PresentBetween}
 use Rattle.orc_columns.specs.Reader.{whole_reader, Begins, FailsAtStart}
 use Rattle.orc_columns.specs.Spelling.{IntRun, spelling_of}
 

@@ -6,9 +6,7 @@ use Rattle.orc_columns.specs.declared.spelling.Version.{Version}
 use Rattle.orc_columns.specs.declared.spelling.Version.TheVariants.{One, Two}
 use Rattle.orc_columns.specs.declared.integers.IntRuns.{IntRuns}
 use Rattle.orc_columns.specs.declared.integers.IntRuns.TheVariants as runs
-use Rattle.orc_rle.specs.BitRun.{bit_run}
-use Rattle.orc_rle.specs.Decoder.{Decoder}
-use Rattle.orc_columns.specs.Decoders.{IntegersOf, integers_of, held_in, IsOn, BitsOf, bits_in, BitsOn}
+use Rattle.orc_columns.specs.Decoders.{IntegersOf, integers_of, held_in, IsOn}
 use Rattle.orc_columns.specs.Spelling.{int_run}
 
 integers_of-held : (stream : Option ℕ) (r : IntRuns) → (integers_of stream r).held ≡ held_in r
@@ -27,10 +25,3 @@ none_held (Some stream) r view is on lacks = absurd (let no : true ≡ false = l
 pub int_run-ends : (version : Version) (signed : Bool) → int_run version signed [] ≡ Err StreamEnds
 int_run-ends One signed = refl
 int_run-ends Two signed = refl
-
-pub no_bits_held : (stream : Option ℕ) (d : Decoder Bool) (view : BitsOf) → view ≡ bits_in stream d → BitsOn stream d → is_some stream ≡ false → (view.stream ≡ None) × (view.held ≡ [])
-no_bits_held None d view is on lacks = (ap (λ (v : BitsOf). v.stream) is, ap (λ (v : BitsOf). v.held) is ∙ on)
-no_bits_held (Some stream) d view is on lacks = absurd (let no : true ≡ false = lacks in cc)
-
-pub bit_run-ends : bit_run [] ≡ Err StreamEnds
-bit_run-ends = refl

@@ -15,7 +15,8 @@ use Rattle.orc_columns.specs.declared.spelling.Version.{Version}
 use Rattle.orc_columns.specs.declared.value_reader.ValueReader.TheVariants as reader
 use Rattle.orc_columns.specs.Batches.{NumbersGoOn, NumbersBreak, BitsGoOn, BitsBreak, ValuesGoOn, ValuesBreak}
 use Rattle.orc_columns.specs.Column.{Streams, bits, integers, rows_of}
-use Rattle.orc_columns.specs.Decoders.{BitsOf, IntegersOf}
+use Rattle.row_flags.specs.Decoders.{BitsOf}
+use Rattle.orc_columns.specs.Decoders.{IntegersOf}
 use Rattle.orc_columns.specs.Spelling.{IntRun, int_run}
 
 -- values that are woven into rows are the rows' values

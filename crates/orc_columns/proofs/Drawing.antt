@@ -15,10 +15,11 @@ use Rattle.orc_columns.specs.declared.fault.StreamName.TheVariants as name
 use Rattle.orc_columns.specs.declared.plan.ColumnPlan.{ColumnPlan}
 use Rattle.orc_columns.specs.Column.{Streams}
 use Rattle.orc_columns.specs.Draws.{IsOfPlan, AllOfPlan, Differ, StreamsDiffer, Tells, IsReadError, FailedToRead, Decided, Said, Draws, of_run, in_stream, OnlyPresent, OnlyBody, OnlyLengths, GoesOn, BreaksOn}
-use Rattle.orc_columns.specs.Decoders.{PresentOf}
-use Rattle.orc_columns.specs.Optional.{rest_in, AllIn, FillsIn}
+use Rattle.row_flags.specs.Decoders.{PresentOf}
+use Rattle.row_flags.specs.Optional.{rest_in, AllIn, FillsIn}
 use Rattle.orc_columns.specs.Turns.{InTurn, alone}
-use Rattle.orc_columns.specs.Present.{PresentBetween, PresentBreaksWith, PresentContinues, PresentFills, PresentGoesOn, PresentBreaksOn}
+use Rattle.row_flags.specs.Present.{PresentBetween, PresentBreaksWith, PresentContinues, PresentFills}
+use Rattle.orc_columns.specs.Present.{PresentGoesOn, PresentBreaksOn}
 use Rattle.orc_columns.proofs.Turns.{InTurn-none, InTurn-alone, InTurn-joined, InTurn-front, alone-twice}
 
 -- ---- the streams of a plan

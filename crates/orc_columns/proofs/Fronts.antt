@@ -9,9 +9,10 @@ use Rattle.orc_columns.specs.declared.fault.ColumnFault.{ColumnFault}
 use Rattle.orc_columns.specs.declared.fault.StreamName.TheVariants as name
 use Rattle.orc_columns.specs.declared.plan.ColumnPlan.{ColumnPlan}
 use Rattle.orc_columns.specs.Batches.{NumbersGoOn, NumbersBreak, LengthsGoOn, LengthsBreak, BitsGoOn, BitsBreak}
-use Rattle.orc_columns.specs.Decoders.{BitsOf, IntegersOf}
+use Rattle.row_flags.specs.Decoders.{BitsOf}
+use Rattle.orc_columns.specs.Decoders.{IntegersOf}
 use Rattle.orc_columns.specs.Draws.{StreamsDiffer, Draws, in_stream}
-use Rattle.orc_columns.specs.Optional.{FillsIn}
+use Rattle.row_flags.specs.Optional.{FillsIn}
 use Rattle.orc_columns.specs.Spelling.{IntRun, int_run}
 use Rattle.orc_columns.proofs.Drawing.{body_draws, length_draws}
 use Rattle.orc_columns.specs.Turns.{alone}

@@ -23,7 +23,7 @@ use Rattle.orc_columns.specs.declared.spelling.Version.{Version}
 use Rattle.orc_columns.specs.Column.{Streams, AreLengths, LengthsFail, broken, negative, past, ValuesFail, bits, integers, texts, entries, places, index, places_of, IsNegative, entry_text}
 use Rattle.orc_columns.specs.Draws.{StreamsDiffer, Tells, Draws, of_run, OnlyBody, OnlyLengths, GoesOn, BreaksOn}
 use Rattle.orc_columns.specs.FirstFault.{Sized, JudgedLengths, JudgedValues}
-use Rattle.orc_columns.specs.Flags.{ReadsBits}
+use Rattle.row_flags.specs.Flags.{ReadsBits}
 use Rattle.orc_columns.specs.Numbers.{ReadsNumbers, bound_from}
 use Rattle.orc_columns.specs.Spelling.{IntRun, int_run}
 use Rattle.orc_columns.proofs.Drawing.{Draws-ok, Draws-fault, Draws-stops, Draws-then, Draws-front, body_draws, length_draws}

@@ -17,12 +17,12 @@ use Rattle.orc_columns.specs.declared.spelling.Spelling.{Spelling}
 use Rattle.orc_columns.specs.declared.spelling.Spelling.TheVariants.{Bits, Integers, Texts, Dictionary}
 use Rattle.orc_columns.specs.Batches.{HoldsNoRead}
 use Rattle.orc_columns.specs.Column.{Streams, PresentBreaks, AreValues, ValuesFail, bits, integers, texts, entries, places, index, Fails, encoding, nulls, values, row_value, rows_of}
-use Rattle.orc_columns.specs.Decoders.{PresentOf, new_present}
+use Rattle.row_flags.specs.Decoders.{PresentOf, new_present}
 use Rattle.orc_columns.specs.Draws.{StreamsDiffer, Tells, Draws, IsReadError, Decided, of_run, OnlyPresent}
 use Rattle.orc_columns.specs.FirstFault.{found_by, Judges, IsJudged, Sized, StandingRows, NoStandingRows, JudgedValues, JudgedColumn}
-use Rattle.orc_columns.specs.Flags.{ReadsFlags}
-use Rattle.orc_columns.specs.Optional.{rest_in}
-use Rattle.orc_columns.specs.Present.{PresentBetween}
+use Rattle.row_flags.specs.Flags.{ReadsFlags}
+use Rattle.row_flags.specs.Optional.{rest_in}
+use Rattle.row_flags.specs.Present.{PresentBetween}
 use Rattle.orc_columns.specs.Spelling.{spelling_of}
 use Rattle.orc_columns.proofs.Drawing.{Draws-ok, Draws-fault, Draws-then, Draws-front, present_draws}
 use Rattle.orc_columns.proofs.Judged.{said_so}

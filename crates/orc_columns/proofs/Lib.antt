@@ -1,13 +1,9 @@
-mod AllLeft
 mod Beginnings
 mod Decoders
 mod DenseRows
 mod Drawing
 mod EitherColumn
 mod EntryRows
-mod FlagBatches
-mod FlagsFollowing
-mod Following
 mod Fronts
 mod Judged
 mod JudgedColumns
@@ -16,7 +12,6 @@ mod NoRead
 mod NumberBatches
 mod OneColumn
 mod OneSpelling
-mod Optional
 mod OtherStreams
 mod PlaceRows
 mod ReadingRows

@@ -9,8 +9,8 @@ use Rattle.outside.specs.Feed.{Taken}
 use Rattle.outside.specs.Reading.{Reader}
 use Rattle.orc_columns.specs.declared.numbers.Summary.{Summary}
 use Rattle.orc_columns.specs.Numbers.{ReadsNumbers, total_from, bound_from, summary_of}
-use Rattle.orc_columns.specs.Optional.{FillsIn}
-use Rattle.orc_columns.proofs.Following.{fills_none, fills_more, fills_fault}
+use Rattle.row_flags.specs.Optional.{FillsIn}
+use Rattle.row_flags.specs.FollowingLaws.{fills_none, fills_more, fills_fault}
 
 summary_more : (s t : Summary) (numbers out : List ℤ) → s ≡ summary_of numbers → t.total ≡ total_from s.total out → t.bound ≡ bound_from s.bound out → t ≡ summary_of (numbers ++ out)
 summary_more s t numbers out is total bound =

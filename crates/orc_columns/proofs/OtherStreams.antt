@@ -5,7 +5,7 @@ use Rattle.orc_columns.specs.declared.plan.ColumnPlan.{ColumnPlan}
 use Rattle.orc_columns.specs.Column.{Streams}
 use Rattle.orc_columns.specs.Draws.{IsOfPlan, AllOfPlan, Differ, Tells}
 use Rattle.orc_columns.specs.Laws.{Apart, IsNoneOf, LeaveAColumn, LeaveAStream}
-use Rattle.orc_columns.specs.Optional.{rest_in, AllIn}
+use Rattle.row_flags.specs.Optional.{rest_in, AllIn}
 use Rattle.orc_columns.specs.Turns.{InTurn}
 use Rattle.orc_columns.proofs.Drawing.{none_lost, none_taken}
 

@@ -16,17 +16,17 @@ use Rattle.orc_values.specs.Woven.{present_count, woven, aligned}
 use Rattle.orc_values.specs.WovenLaws.{woven-append, present_count-append, length-woven, length-aligned}
 use Rattle.orc_columns.specs.declared.fault.ColumnFault.{ColumnFault}
 use Rattle.orc_columns.specs.declared.plan.ColumnPlan.{ColumnPlan}
-use Rattle.orc_columns.specs.declared.present.PresentState.{PresentState}
-use Rattle.orc_columns.specs.declared.present.PresentState.TheVariants.{Unread, Empty, Flags}
+use Rattle.row_flags.specs.declared.present.PresentState.{PresentState}
+use Rattle.row_flags.specs.declared.present.PresentState.TheVariants.{Unread, Empty, Flags}
 use Rattle.orc_columns.specs.declared.spelling.Spelling.{Spelling}
 use Rattle.orc_columns.specs.declared.value_reader.ValueReader.{ValueReader}
 use Rattle.orc_columns.specs.declared.value_reader.ValueReader.TheVariants as reader
 use Rattle.orc_columns.specs.Batches.{HoldsNoRead, FlagsGoOn, FlagsBreak, ValuesGoOn, ValuesBreak}
 use Rattle.orc_columns.specs.Column.{Streams, ArePresent, PresentBreaks, ValuesFail, nulls, values, row_value, rows_of}
-use Rattle.orc_columns.specs.Decoders.{PresentOf}
+use Rattle.row_flags.specs.Decoders.{PresentOf}
 use Rattle.orc_columns.specs.Draws.{StreamsDiffer, Draws}
 use Rattle.orc_columns.specs.Midway.{ReaderOf, ValuesBetween, spelling_in}
-use Rattle.orc_columns.specs.Present.{PresentBetween}
+use Rattle.row_flags.specs.Present.{PresentBetween}
 use Rattle.orc_columns.specs.Spelling.{spelling_of}
 use Rattle.orc_columns.specs.Turns.{alone, value_streams, batch_by, batch_streams}
 use Rattle.orc_columns.proofs.Drawing.{Draws-then, Draws-ok, Draws-fault}

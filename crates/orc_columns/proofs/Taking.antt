@@ -9,7 +9,7 @@ use Rattle.orc_columns.specs.declared.fault.ColumnFault.{ColumnFault}
 use Rattle.orc_columns.specs.declared.plan.ColumnPlan.{ColumnPlan}
 use Rattle.orc_columns.specs.Column.{Streams}
 use Rattle.orc_columns.specs.Draws.{StreamsDiffer, Tells, FailedToRead, Decided, Said, Draws}
-use Rattle.orc_columns.specs.Optional.{rest_in, AllIn}
+use Rattle.row_flags.specs.Optional.{rest_in, AllIn}
 use Rattle.orc_columns.specs.Takes.{ReadsIn, take_fault, BodyTaken, BodyShort, DictionaryTaken, DictionaryShort}
 use Rattle.orc_columns.proofs.Drawing.{all_in, untouched}
 use Rattle.orc_columns.specs.Turns.{alone}

@@ -2,9 +2,9 @@
 use Rattle.std.proofs.Common.{◌≡◌, ℕ, List, [], ◌∷◌, ◌++◌, Option, Some, None, refl, sym, ◌∙◌, ap, subst, append_assoc, append-nil}
 use Rattle.outside.specs.Feed.{Taken, AllOf}
 use Rattle.orc_columns.specs.Laws.{NeverBack}
-use Rattle.orc_columns.specs.Optional.{AllIn}
+use Rattle.row_flags.specs.Optional.{AllIn}
 use Rattle.orc_columns.specs.Turns.{InTurn, alone}
-use Rattle.orc_columns.proofs.Following.{in_joined}
+use Rattle.row_flags.specs.FollowingLaws.{in_joined}
 
 none_in : (stream : Option ℕ) → AllIn stream []
 none_in None = refl

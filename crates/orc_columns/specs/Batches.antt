@@ -22,7 +22,8 @@ use Rattle.orc_columns.specs.declared.spelling.Version.{Version}
 use Rattle.orc_columns.specs.declared.value_reader.ValueReader.{ValueReader}
 use Rattle.orc_columns.specs.declared.value_reader.ValueReader.TheVariants as reader
 use Rattle.orc_columns.specs.Column.{Streams, IsNegative, AreLengths, LengthsFail, ValuesFail, rows_of}
-use Rattle.orc_columns.specs.Decoders.{BitsOf, IntegersOf, PresentOf}
+use Rattle.row_flags.specs.Decoders.{BitsOf, PresentOf}
+use Rattle.orc_columns.specs.Decoders.{IntegersOf}
 use Rattle.orc_columns.specs.Draws.{OnlyPresent, OnlyBody, OnlyLengths, GoesOn, BreaksOn}
 use Rattle.orc_columns.specs.Midway.{ValuesBetween, spelling_in}
 use Rattle.orc_columns.specs.Present.{PresentGoesOn, PresentBreaksOn}

@@ -15,6 +15,7 @@ use Rattle.orc_values.specs.declared.value.Value.TheVariants as value
 use Rattle.orc_values.specs.Column.{value_by}
 use Rattle.orc_values.specs.Texts.{slices}
 use Rattle.orc_values.specs.Woven.{present_count, woven}
+pub use Rattle.row_flags.specs.Present.{ArePresent, PresentBreaks}
 use Rattle.orc_columns.specs.declared.fault.ColumnFault.{ColumnFault}
 use Rattle.orc_columns.specs.declared.fault.ColumnFault.TheVariants.{BadEncoding, Run, NegativeLength, LengthsPastData}
 use Rattle.orc_columns.specs.declared.fault.ColumnFault.TheVariants.{IndexOutOfDictionary}
@@ -31,18 +32,6 @@ pub record Streams : Type 0 where
   pub body : List ℕ
   pub lengths : List ℕ
   pub dictionary : List ℕ
-
--- ---- which rows aren't null
-
--- A flag for each row, set where the value isn't null: the bits that PRESENT spells. Without a byte of it nothing is null.
-abbrev pub ArePresent : List ℕ → List Bool → Type 0
-ArePresent [] flags = flags ≡ replicate (length flags) true
-ArePresent (byte ∷ bytes) flags = (rest : List ℕ) × Spells BitRun (byte ∷ bytes) flags rest
-
--- PRESENT has a byte, and doesn't spell so many bits
-abbrev pub PresentBreaks : List ℕ → ℕ → RunFault → Type 0
-PresentBreaks [] rows fault = ⊥
-PresentBreaks (byte ∷ bytes) rows fault = Breaks BitRun bit_run (byte ∷ bytes) rows fault
 
 -- ---- lengths of texts
 

@@ -12,7 +12,7 @@ use Rattle.orc_columns.specs.declared.fault.ColumnFault.TheVariants.{Run, Read, 
 use Rattle.orc_columns.specs.declared.fault.StreamName.{StreamName}
 use Rattle.orc_columns.specs.declared.plan.ColumnPlan.{ColumnPlan}
 use Rattle.orc_columns.specs.Column.{Streams}
-use Rattle.orc_columns.specs.Optional.{rest_in}
+use Rattle.row_flags.specs.Optional.{rest_in}
 use Rattle.orc_columns.specs.Turns.{InTurn}
 
 -- the number of one of the plan's streams

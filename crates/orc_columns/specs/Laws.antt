@@ -7,7 +7,7 @@ use Rattle.orc_columns.specs.declared.plan.ColumnPlan.{ColumnPlan}
 use Rattle.orc_columns.specs.Column.{Streams, IsColumn, Fails}
 use Rattle.orc_columns.specs.Draws.{IsOfPlan, AllOfPlan, Differ, Tells}
 use Rattle.orc_columns.specs.Midway.{ReaderOf, Midway}
-use Rattle.orc_columns.specs.Optional.{rest_in}
+use Rattle.row_flags.specs.Optional.{rest_in}
 use Rattle.orc_columns.specs.Turns.{InTurn}
 
 -- a column that has values in some rows isn't refused in as many rows, or fewer

@@ -4,7 +4,6 @@ pub mod Decoders
 pub mod Draws
 pub mod Entries
 pub mod FirstFault
-pub mod Flags
 pub mod Laws
 pub mod Midway
 pub mod Numbers

@@ -11,8 +11,8 @@ use Rattle.orc_columns.specs.declared.plan.ColumnPlan.{ColumnPlan}
 use Rattle.orc_columns.specs.declared.value_reader.ValueReader.{ValueReader}
 use Rattle.orc_columns.specs.declared.value_reader.ValueReader.TheVariants as reader
 use Rattle.orc_columns.specs.Column.{Streams, AreLengths, entry_text, places_of, rows_of}
-use Rattle.orc_columns.specs.Decoders.{PresentOf}
-use Rattle.orc_columns.specs.Present.{PresentBetween}
+use Rattle.row_flags.specs.Decoders.{PresentOf}
+use Rattle.row_flags.specs.Present.{PresentBetween}
 use Rattle.orc_columns.specs.declared.spelling.Spelling.{Spelling}
 use Rattle.orc_columns.specs.declared.spelling.Spelling.TheVariants.{Bits, Integers, Texts, Dictionary}
 use Rattle.orc_columns.specs.Spelling.{IntRun, spelling_of}

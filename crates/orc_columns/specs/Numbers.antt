@@ -5,7 +5,7 @@ use Rattle.outside.specs.declared.run_fault.RunFault.{RunFault}
 use Rattle.outside.specs.Feed.{Taken}
 use Rattle.outside.specs.Reading.{Reader, placed}
 use Rattle.orc_columns.specs.declared.numbers.Summary.{Summary}
-use Rattle.orc_columns.specs.Optional.{FillsIn}
+use Rattle.row_flags.specs.Optional.{FillsIn}
 
 -- a sum, and then numbers as unsigned ones
 abbrev pub total_from : ℕ → List ℤ → ℕ

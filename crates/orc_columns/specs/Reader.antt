@@ -6,7 +6,7 @@ use Rattle.orc_columns.specs.declared.plan.ColumnPlan.{ColumnPlan}
 use Rattle.orc_columns.specs.declared.value_reader.ValueReader.{ValueReader}
 use Rattle.orc_columns.specs.Batches.{HoldsNoRead, ReadsPlan}
 use Rattle.orc_columns.specs.Column.{Streams, Fails}
-use Rattle.orc_columns.specs.Decoders.{PresentOf}
+use Rattle.row_flags.specs.Decoders.{PresentOf}
 use Rattle.orc_columns.specs.Draws.{StreamsDiffer, Tells}
 use Rattle.orc_columns.specs.FirstFault.{Sized}
 use Rattle.orc_columns.specs.Midway.{ReaderOf, Midway, spelling_in}

@@ -9,7 +9,7 @@ use Rattle.orc_columns.specs.declared.fault.ColumnFault.{ColumnFault}
 use Rattle.orc_columns.specs.declared.fault.ColumnFault.TheVariants.{LengthsPastData, Read}
 use Rattle.orc_columns.specs.Column.{Streams}
 use Rattle.orc_columns.specs.Draws.{OnlyBody, OnlyDictionary}
-use Rattle.orc_columns.specs.Optional.{rest_in, AllIn}
+use Rattle.row_flags.specs.Optional.{rest_in, AllIn}
 
 -- What `Reads` says of a call, of a stream that may be lacking.
 pub record ReadsIn {F Y : Type 0} (rest : F → ℕ → Option (List ℕ)) (fed : F → List Taken → F → Type 0) (count : F → ℕ)

@@ -4,7 +4,7 @@ use Rattle.outside.specs.Feed.{Taken}
 use Rattle.orc_columns.specs.declared.plan.ColumnPlan.{ColumnPlan}
 use Rattle.orc_columns.specs.declared.spelling.Spelling.{Spelling}
 use Rattle.orc_columns.specs.declared.spelling.Spelling.TheVariants.{Bits, Integers, Texts, Dictionary}
-use Rattle.orc_columns.specs.Optional.{AllIn}
+use Rattle.row_flags.specs.Optional.{AllIn}
 use Rattle.orc_columns.specs.Spelling.{spelling_of}
 
 -- Takes of the first of these streams, then of the next, and so on: a part for each, which may have no take. The front of

@@ -14,11 +14,11 @@ ghost use Rattle.orc_columns.specs.Turns.{value_streams, batch_streams, start_st
 use crate::fault::ColumnFault;
 use crate::fills::fill_flags;
 use crate::plan::ColumnPlan;
-use crate::present::Present;
 use crate::spelling::spelling_of;
 use crate::value_reader::{ValueReader, start_values};
 use orc_values::{Column, count_present};
 use outside::Feed;
+use row_flags::Present;
 use std::alloc::Global;
 use std::marker::Model;
 use std::mem;

@@ -18,7 +18,6 @@ ghost use Rattle.orc_columns.specs.Midway.{spelling_in};
 ghost use Rattle.orc_columns.specs.Reader.{HasLengths};
 ghost use Rattle.orc_columns.specs.Turns.{alone};
 
-use crate::batch::BATCH;
 use crate::entry_lengths::push_all_lengths;
 use crate::fault::ColumnFault;
 use crate::fills::fill_numbers;
@@ -29,6 +28,7 @@ use crate::spelling::Version;
 use crate::text_bytes::read_bytes;
 use orc_values::{ColumnValues, Texts};
 use outside::{Feed, NoMemory};
+use row_flags::BATCH;
 use std::alloc::Global;
 
 /// Texts of a dictionary, each spelled by the number of its entry in DATA.

@@ -6,11 +6,11 @@ ghost use Rattle.orc_columns.specs.Batches.{HoldsNoRead, LengthsGoOn, LengthsBre
 ghost use Rattle.orc_columns.specs.Draws.{StreamsDiffer, Draws};
 ghost use Rattle.orc_columns.specs.Turns.{alone};
 
-use crate::batch::BATCH;
 use crate::fault::ColumnFault;
 use crate::fills::fill_lengths;
 use crate::integers::Integers;
 use outside::Feed;
+use row_flags::BATCH;
 
 /// Adds so many lengths, a batch at a time: memory is asked for those alone that the stream spells.
 pub(crate) fn push_all_lengths<F: Feed>(

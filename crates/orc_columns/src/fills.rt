@@ -7,11 +7,10 @@ ghost use Rattle.orc_columns.specs.Batches.{LengthsBreak, BitsGoOn, BitsBreak};
 ghost use Rattle.orc_columns.specs.Draws.{StreamsDiffer, Draws};
 ghost use Rattle.orc_columns.specs.Turns.{alone};
 
-use crate::bit_stream::BitStream;
 use crate::fault::{ColumnFault, StreamName, of_run};
 use crate::integers::Integers;
-use crate::present::Present;
 use outside::Feed;
+use row_flags::{BitStream, Present};
 
 /// Gives the flags of the next rows.
 pub(crate) fn fill_flags<F: Feed>(

@@ -1,7 +1,7 @@
 //! The integers of a stream, in runs of either version.
 ghost use Rattle.std.specs.Prelude.{◌≡◌, [], length, None, OnOk};
 ghost use Rattle.outside.specs.Reading.{placed};
-ghost use Rattle.orc_columns.specs.Optional.{FillsIn};
+ghost use Rattle.row_flags.specs.Optional.{FillsIn};
 ghost use Rattle.orc_columns.specs.Spelling.{IntRun, int_run};
 
 use crate::spelling::Version;

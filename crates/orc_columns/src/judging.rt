@@ -8,15 +8,13 @@ ghost use Rattle.orc_columns.specs.Spelling.{spelling_of as spelling_by};
 ghost use Rattle.orc_columns.specs.Turns.{alone, judged_values};
 ghost use Rattle.orc_columns.specs.declared.spelling.Spelling.TheVariants.{Bits, Integers as OfIntegers, Texts, Dictionary};
 
-use crate::bit_stream::BitStream;
 use crate::fault::{ColumnFault, StreamName, of_run};
-use crate::flags::{count_flags, skip_bits};
 use crate::integers::Integers;
 use crate::numbers::read_numbers;
 use crate::plan::ColumnPlan;
-use crate::present::Present;
 use crate::spelling::{Spelling, Version, spelling_of};
 use outside::Feed;
+use row_flags::{BitStream, Present, count_flags, skip_bits};
 
 /// A length with its 64th bit set is at least this, as an unsigned number.
 const NEGATIVE: u128 = 1 << 63;

@@ -1,21 +1,17 @@
 //! Columns of a stripe: their values, decoded from streams.
 #![tactic(auto)]
 
-mod batch;
-mod bit_stream;
 mod column_reader;
 mod dictionary;
 mod entry_lengths;
 mod fault;
 mod fills;
-mod flags;
 mod integers;
 mod judging;
 pub mod laws;
 mod lengths;
 mod numbers;
 mod plan;
-mod present;
 mod spelling;
 mod text_bytes;
 mod text_reader;

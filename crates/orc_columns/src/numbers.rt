@@ -4,9 +4,9 @@ ghost use Rattle.std.specs.Int.{w64, cast_unsigned};
 ghost use Rattle.orc_columns.specs.Numbers.{ReadsNumbers, total_from, bound_from};
 ghost use Rattle.orc_columns.specs.Spelling.{IntRun, int_run};
 
-use crate::batch::BATCH;
 use crate::integers::Integers;
 use outside::{Feed, RunFault};
+use row_flags::BATCH;
 
 /// What judging a column asks of its integers, as unsigned numbers of 64 bits.
 #[derive(Clone, Copy)]

@@ -12,13 +12,13 @@ ghost use Rattle.orc_columns.specs.Draws.{StreamsDiffer, Draws};
 ghost use Rattle.orc_columns.specs.Midway.{spelling_in};
 ghost use Rattle.orc_columns.specs.Turns.{alone};
 
-use crate::batch::BATCH;
 use crate::fault::ColumnFault;
 use crate::integers::Integers;
 use crate::lengths::next_lengths;
 use crate::text_bytes::read_bytes;
 use orc_values::{ColumnValues, Texts, lay_ends};
 use outside::Feed;
+use row_flags::BATCH;
 use std::alloc::Global;
 
 /// Texts, each spelled by its length in LENGTH and its bytes in DATA.

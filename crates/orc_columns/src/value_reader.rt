@@ -11,7 +11,6 @@ ghost use Rattle.orc_columns.specs.Midway.{spelling_in};
 ghost use Rattle.orc_columns.specs.Reader.{HasLengths};
 ghost use Rattle.orc_columns.specs.Turns.{alone, value_streams, start_by};
 
-use crate::bit_stream::BitStream;
 use crate::dictionary::{DictionaryReader, dictionary_rows, read_entries};
 use crate::fault::ColumnFault;
 use crate::fills::{fill_bits, fill_numbers};
@@ -21,6 +20,7 @@ use crate::spelling::Spelling;
 use crate::text_reader::{TextReader, text_rows};
 use orc_values::{ColumnValues, spread, spread_numbers};
 use outside::Feed;
+use row_flags::BitStream;
 use std::alloc::Global;
 
 /// The values of a column that aren't null, by how they are spelled.

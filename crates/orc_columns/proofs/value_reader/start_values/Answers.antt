@@ -2,7 +2,8 @@ use Rattle.std.proofs.Common.{ap}
 use Rattle.std.proofs.lemmas.Result.{err_from_is_err_and}
 use Rattle.orc_columns.specs.Batches.{ValuesBegin, ValuesFailAtStart, EntriesRead, EntriesFail}
 use Rattle.orc_columns.specs.Column.{entries}
-use Rattle.orc_columns.specs.Decoders.{BitsOf, IntegersOf}
+use Rattle.row_flags.specs.Decoders.{BitsOf}
+use Rattle.orc_columns.specs.Decoders.{IntegersOf}
 use Rattle.orc_columns.proofs.Beginnings.{bits_begin, numbers_begin, texts_begin, dictionary_begins}
 use Rattle.orc_columns.proofs.Drawing.{Draws-done, Draws-ok, Draws-fault}
 use Rattle.orc_columns.proofs.value_reader.start_values.Goals as goal

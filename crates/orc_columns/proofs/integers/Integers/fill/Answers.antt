@@ -1,7 +1,7 @@
 use Rattle.std.proofs.Common.{◌≡◌, length, sym, arith, false}
 use Rattle.std.specs.Option.{is_some}
 use Rattle.orc_columns.proofs.Decoders.{none_held, int_run-ends}
-use Rattle.orc_columns.proofs.Optional.{lacking_ok, lacking_ends}
+use Rattle.row_flags.specs.OptionalLaws.{lacking_ok, lacking_ends}
 use Rattle.orc_columns.proofs.integers.Integers.fill.Goals as goal
 use Rattle.orc_columns.proofs.integers.Integers.fill.Goals.{then-is_empty, else-is_empty}
 

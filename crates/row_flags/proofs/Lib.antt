@@ -1,0 +1,4 @@
+mod AllLeft
+mod Decoders
+mod FlagBatches
+mod FlagsFollowing
