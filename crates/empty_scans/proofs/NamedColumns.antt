@@ -16,9 +16,9 @@ use Rattle.fragment_plan.specs.declared.fragment.Work.TheVariants as work_is
 use Rattle.fragment_plan.specs.declared.fragment.FoldKind.{FoldKind}
 use Rattle.fragment_plan.specs.declared.fragment.FoldKind.TheVariants as fold
 use Rattle.fragment_plan.specs.declared.shape.Shape.{Shape}
-use Rattle.fragment_plan.specs.Columns.{placed, column, all_placed, column_list}
+use Rattle.plan_names.specs.Columns.{placed, column, all_placed, column_list}
 use Rattle.fragment_plan.specs.Tests.{tests}
-use Rattle.fragment_plan.specs.Sources.{sources, after, new_name}
+use Rattle.plan_names.specs.Sources.{sources, after, new_name}
 use Rattle.fragment_plan.specs.Shapes.{is_whole, shapes_of}
 use Rattle.fragment_plan.specs.Fragments.{rows_fold, column_fold, fold_by, scan_by, merge, work_by, work, shaped, line, names_of, fragment_of}
 use Rattle.fragment_plan.specs.Plan.{with_line, on_line, plan_from, plan_of}

@@ -2,7 +2,7 @@
 use Rattle.std.proofs.Common.{◌≡◌, ℕ, zero, suc, ◌<◌, ◌≤◌, List, [], ◌∷◌, ◌++◌, length, position, Bool, true, false, nat_lt, Option, Some, None, Result, Ok, Err, refl, sym, ap, subst, arith, length-append, ltb-true, codes, if◌then◌else◌, get_or, ◌⊎◌, inl, inr}
 use Rattle.std.specs.Prelude.{All}
 use Rattle.std.specs.Str.{bytes_eq}
-use Rattle.std.proofs.lemmas.List.{get_or_at, get_or_append_left}
+use Rattle.std.proofs.lemmas.List.{get_or_at, get_or_append_left, length-map}
 use Rattle.std.proofs.lemmas.List.Elements.{All-nil, All-push, All-weaker}
 use Rattle.std.proofs.lemmas.List.Quantifiers.{position-Some}
 use Rattle.plan_words.specs.declared.fault.PlanKind.{PlanKind}
@@ -16,13 +16,12 @@ use Rattle.fragment_plan.specs.declared.fragment.Work.TheVariants as work_is
 use Rattle.fragment_plan.specs.declared.fragment.FoldKind.{FoldKind}
 use Rattle.fragment_plan.specs.declared.fragment.FoldKind.TheVariants as fold
 use Rattle.fragment_plan.specs.declared.shape.Shape.{Shape}
-use Rattle.fragment_plan.specs.Columns.{placed_at, placed, column, all_placed, column_list}
+use Rattle.plan_names.specs.Columns.{placed_at, placed, column, all_placed, column_list}
 use Rattle.fragment_plan.specs.Tests.{check, one_test, more_tests, tests}
-use Rattle.fragment_plan.specs.Sources.{known, all_known, sources, after, new_name}
+use Rattle.plan_names.specs.Sources.{known, all_known, sources, after, new_name}
 use Rattle.fragment_plan.specs.Shapes.{is_whole, shapes_of}
 use Rattle.fragment_plan.specs.Fragments.{rows_fold, column_fold, fold_by, scan_by, merge, work_by, work, shaped, line, names_of, fragment_of}
 use Rattle.fragment_plan.specs.Plan.{with_line, on_line, plan_from, plan_of}
-use Rattle.fragment_plan.proofs.Positions.{length_map}
 use Rattle.fragment_plan.specs.Bounds.{FoldInBounds, WorkInBounds, InBounds, AllInBounds}
 
 pub inv : {A B : Type 0} (r : Result A PlanKind) (f : A → Result B PlanKind) (y : B) → and_then r f ≡ Ok y → (x : A) × (r ≡ Ok x) × (f x ≡ Ok y)
@@ -293,7 +292,7 @@ with_line_bound before text y all e =
     let a = inv (fragment_of (names_of before) (shapes_of before) text) (λ f. Ok (before ++ f ∷ [])) y e in
     let one = fragment_bound (names_of before) (shapes_of before) text a.0 a.1 in
     subst AllInBounds (same_ok (before ++ a.0 ∷ []) y a.2)
-    (pushed before a.0 all (subst (λ (n : ℕ). InBounds n a.0) (length_map (λ f. f.name) before) one))
+    (pushed before a.0 all (subst (λ (n : ℕ). InBounds n a.0) (length-map before (λ f. f.name)) one))
 
 on_line_ok : (number : ℕ) (r : Result (List Fragment) PlanKind) (others : List Fragment → Result (List Fragment) (ℕ × PlanKind)) (y : List Fragment)
     → on_line number r others ≡ Ok y → (x : List Fragment) × (r ≡ Ok x) × (others x ≡ Ok y)

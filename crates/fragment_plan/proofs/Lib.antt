@@ -1,4 +1,3 @@
-pub mod Positions
 pub mod TestSteps
 pub mod ShapeSteps
 pub mod BoundSteps

@@ -14,9 +14,9 @@ use Rattle.fragment_plan.specs.declared.fragment.Work.TheVariants.{Scan, Merge}
 use Rattle.fragment_plan.specs.declared.fragment.FoldKind.{FoldKind}
 use Rattle.fragment_plan.specs.declared.fragment.FoldKind.TheVariants.{Rows, Count, Sum, Group}
 use Rattle.fragment_plan.specs.declared.shape.Shape.{Shape}
-use Rattle.fragment_plan.specs.Columns.{column, column_list}
+use Rattle.plan_names.specs.Columns.{column, column_list}
 use Rattle.fragment_plan.specs.Tests.{tests}
-use Rattle.fragment_plan.specs.Sources.{sources, after, new_name}
+use Rattle.plan_names.specs.Sources.{sources, after, new_name}
 use Rattle.fragment_plan.specs.Shapes.{is_whole}
 
 -- behind "rows": COLUMNS
@@ -68,19 +68,32 @@ work earlier = do
 abbrev pub shaped : List Shape → Fragment → Reads Fragment
 shaped shapes fragment = if is_whole shapes fragment.work then gives fragment else fails kind.ShapeDiffers
 
--- a whole line, behind fragments of these names and shapes: the shapes of a merge's sources are judged last
-unfoldable pub line : List (List ℕ) → List Shape → Reads Fragment
-line names shapes = do
-  found ← new_name names
+-- what stands behind a line's name, behind fragments of these names and shapes: the shapes of a merge's sources are judged last
+abbrev pub named_line : List (List ℕ) → List Shape → List ℕ → Reads Fragment
+named_line names shapes found = do
   done ← work names
   behind ← after names
   end_of_line
   shaped shapes (record { name = found; work = done; after = behind })
 
+-- a whole line
+unfoldable pub line : List (List ℕ) → List Shape → Reads Fragment
+line names shapes = do
+  found ← new_name names
+  named_line names shapes found
+
 -- the names of fragments, in order
 abbrev pub names_of : List Fragment → List (List ℕ)
 names_of fragments = map (λ fragment. fragment.name) fragments
 
+-- the fragment alone, or the first fault
+abbrev pub fragment_by : Reads Fragment → List ℕ → Result Fragment PlanKind
+fragment_by read left = and_then (read left) (λ x. Ok x.0)
+
 -- the fragment of a line, or the line's first fault
 unfoldable pub fragment_of : List (List ℕ) → List Shape → List ℕ → Result Fragment PlanKind
-fragment_of names shapes text = and_then (line names shapes text) (λ x. Ok x.0)
+fragment_of names shapes text = fragment_by (line names shapes) text
+
+-- the fragment of a line behind its name
+abbrev pub named_fragment : List (List ℕ) → List Shape → List ℕ → List ℕ → Result Fragment PlanKind
+named_fragment names shapes found left = fragment_by (named_line names shapes found) left

@@ -1,6 +1,4 @@
-pub mod Columns
 pub mod Tests
-pub mod Sources
 pub mod Shapes
 pub mod Fragments
 pub mod Plan

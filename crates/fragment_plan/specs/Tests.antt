@@ -14,7 +14,7 @@ use Rattle.fragment_plan.specs.declared.test.Op.TheVariants.{Equal, NotEqual, Le
 use Rattle.fragment_plan.specs.declared.test.Check.{Check}
 use Rattle.fragment_plan.specs.declared.test.Check.TheVariants.{Compare, IsNull, IsNotNull}
 use Rattle.fragment_plan.specs.declared.test.Test.{Test}
-use Rattle.fragment_plan.specs.Columns.{column}
+use Rattle.plan_names.specs.Columns.{column}
 
 -- OP
 abbrev pub op_of : List ℕ → Option Op

@@ -1,62 +1,68 @@
-//! What is known of the fragments of earlier lines.
+//! What later lines need of the fragments of earlier lines.
 
-ghost use Rattle.std.specs.Prelude.{◌≡◌, ◌<◌, ◌++◌, ◌∷◌, [], length, map, position, OnOk, None};
+ghost use Rattle.std.specs.Prelude.{◌≡◌, ◌<◌, ◌++◌, ◌∷◌, [], None, Ok, length, position};
 ghost use Rattle.std.specs.Str.{bytes_eq};
+ghost use Rattle.plan_words.specs.Steps.{GivesOr};
 
-use indexmap::IndexSet;
-use std::alloc::{AllocFailed, Global};
+use crate::shape::Shape;
+use plan_names::KnownNames;
+use plan_words::Stop;
+use std::alloc::Global;
 use std::marker::Model;
 
-/// The names on earlier lines, at most 1,000: the place of a name is the number of its fragment.
-///
-/// They are borrowed from the plan's bytes. Contracts see it as the list of them.
+/// An index of the names of earlier fragments, and their shapes. Contracts see it as these two lists.
 #[derive(Drop)]
-pub(crate) struct KnownNames<'a> {
-    set: IndexSet<&'a [u8]>,
+pub(crate) struct Earlier<'a> {
+    names: KnownNames<'a>,
+    shapes: Vec<Shape>,
 }
 
-impl<'a> Model for KnownNames<'a> {
-    ghost use Rattle.std.specs.Prelude.{List, ℕ, map, length, ◌≤◌};
+impl<'a> Model for Earlier<'a> {
+    ghost use Rattle.std.specs.Prelude.{List, ℕ};
+    ghost use Rattle.fragment_plan.specs.declared.shape.Shape.{Shape};
 
-    ghost Value = { List (List ℕ) };
+    ghost Value = { List (List ℕ) × List Shape };
 
-    ghost view = { λ names. map (λ key. key.now) names.set.keys };
-
-    ghost invariant = { λ names. length names.set.keys ≤ 1000 };
+    ghost view = { λ e. (e.names, e.shapes.items) };
 }
 
-impl<'a> KnownNames<'a> {
-    /// No name.
-    pub(crate) fn new(alloc: Global) -> KnownNames<'a>
-        ensures { result ≡ [] }
+impl<'a> Earlier<'a> {
+    /// No fragment.
+    pub(crate) fn new(alloc: Global) -> Earlier<'a>
+        ensures { result ≡ ([], []) }
     {
-        KnownNames {
-            set: IndexSet::new(alloc),
+        Earlier {
+            names: KnownNames::new(alloc),
+            shapes: Vec::new(alloc),
         }
     }
 
-    /// How many names there are.
-    pub(crate) fn len(&self) -> usize
-        ensures { result ≡ length self.now }
+    /// The index of the names, lent.
+    pub(crate) fn names(&self) -> &KnownNames<'a>
+        ensures { result.now ≡ self.now.0 }
     {
-        self.set.len()
+        &self.names
     }
 
-    /// The number of the fragment of that name. It doesn't walk over the names.
-    pub(crate) fn find(&self, wanted: &[u8]) -> Option<u32>
-        ensures { result ≡ position (bytes_eq wanted.now) self.now }
+    /// The shapes, lent.
+    pub(crate) fn shapes(&self) -> &[Shape]
+        ensures { result.now ≡ self.now.1 }
     {
-        let place = self.set.get_index_of(wanted)?;
-        Some(place as u32)
+        self.shapes.as_slice()
     }
 
-    /// Adds a name that wasn't there.
-    pub(crate) fn add(&mut self, name: &'a [u8]) -> Result<(), AllocFailed<&'a [u8]>>
-        requires room { length self.old < 1000 }
-        requires fresh { position (bytes_eq name.now) self.old ≡ None }
-        ensures { OnOk result (self.new ≡ self.old ++ name.now ∷ []) }
+    /// The same with those of one fragment more, whose name wasn't there. Refuses only for want of memory.
+    pub(crate) fn with(self, name: &'a [u8], shape: Shape) -> Result<Earlier<'a>, Stop>
+        requires room { length self.0 < 1000 }
+        requires fresh { position (bytes_eq name.now) self.0 ≡ None }
+        ensures { GivesOr (λ e. e) result (Ok (self.entry.0 ++ name.now ∷ [], self.entry.1 ++ shape ∷ [])) }
     {
-        self.set.insert(name)?;
-        Ok(())
+        let Earlier {
+            mut names,
+            mut shapes,
+        } = self;
+        names.add(name)?;
+        shapes.push(shape)?;
+        Ok(Earlier { names, shapes })
     }
 }

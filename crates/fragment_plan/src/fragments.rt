@@ -1,26 +1,24 @@
 //! The fragments that were read so far.
 
-ghost use Rattle.std.specs.Prelude.{◌≡◌, []};
+ghost use Rattle.std.specs.Prelude.{◌≡◌, ◌++◌, ◌∷◌, [], Ok};
 ghost use Rattle.plan_words.specs.Steps.{GivesOr};
 ghost use Rattle.fragment_plan.specs.Plan.{with_line};
 
-use crate::earlier::KnownNames;
+use crate::earlier::Earlier;
 use crate::fragment::Fragment;
 use crate::line::read_line;
-use crate::shape::{Shape, work_shape};
+use crate::shape::work_shape;
 use plan_words::Stop;
 use std::alloc::Global;
 use std::marker::Model;
 
-/// The fragments of the lines so far, with what later lines need of them: an index of their names, and their
-/// shapes.
+/// The fragments of the lines so far, with what later lines need of them.
 ///
 /// Contracts see it as the list of the fragments.
 #[derive(Drop)]
 pub(crate) struct Fragments<'a> {
     list: Vec<Fragment>,
-    names: KnownNames<'a>,
-    shapes: Vec<Shape>,
+    earlier: Earlier<'a>,
 }
 
 impl<'a> Model for Fragments<'a> {
@@ -33,7 +31,16 @@ impl<'a> Model for Fragments<'a> {
 
     ghost view = { λ f. f.list.items };
 
-    ghost invariant = { λ f. (f.names ≡ names_of f.list.items) × (f.shapes.items ≡ shapes_of f.list.items) };
+    ghost invariant = { λ f. f.earlier ≡ (names_of f.list.items, shapes_of f.list.items) };
+}
+
+/// The list with a fragment more. Refuses only for want of memory.
+fn with_fragment(list: Vec<Fragment>, fragment: Fragment) -> Result<Vec<Fragment>, Stop>
+    ensures { GivesOr (λ v. v.items) result (Ok (list.items ++ fragment ∷ [])) }
+{
+    let mut list = list;
+    list.push(fragment)?;
+    Ok(list)
 }
 
 impl<'a> Fragments<'a> {
@@ -43,8 +50,7 @@ impl<'a> Fragments<'a> {
     {
         Fragments {
             list: Vec::new(alloc),
-            names: KnownNames::new(alloc),
-            shapes: Vec::new(alloc),
+            earlier: Earlier::new(alloc),
         }
     }
 
@@ -52,21 +58,12 @@ impl<'a> Fragments<'a> {
     pub(crate) fn with_line(self, alloc: Global, text: &'a [u8]) -> Result<Fragments<'a>, Stop>
         ensures { GivesOr (λ fragments. fragments) result (with_line self.entry text.now) }
     {
-        let Fragments {
-            mut list,
-            mut names,
-            mut shapes,
-        } = self;
-        let (name, fragment) = read_line(alloc, &names, shapes.as_slice(), text)?;
-        let shape = work_shape(shapes.as_slice(), &fragment.work);
-        names.add(name)?;
-        shapes.push(shape)?;
-        list.push(fragment)?;
-        Ok(Fragments {
-            list,
-            names,
-            shapes,
-        })
+        let Fragments { list, earlier } = self;
+        let (name, fragment) = read_line(alloc, earlier.names(), earlier.shapes(), text)?;
+        let shape = work_shape(earlier.shapes(), &fragment.work);
+        let earlier = earlier.with(name, shape)?;
+        let list = with_fragment(list, fragment)?;
+        Ok(Fragments { list, earlier })
     }
 
     /// The list of them.

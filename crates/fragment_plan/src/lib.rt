@@ -1,7 +1,6 @@
 //! The plan language: the fragments of a plan, read from its bytes.
 #![tactic(auto)]
 
-mod columns;
 mod earlier;
 mod error;
 mod fragment;
@@ -15,7 +14,6 @@ mod queries;
 mod reader;
 mod same;
 mod shape;
-mod sources;
 mod test;
 mod test_reader;
 

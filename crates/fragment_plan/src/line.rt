@@ -1,20 +1,22 @@
 //! One line.
 
-ghost use Rattle.std.specs.Prelude.{◌≡◌, ◌<◌, [], None, length, position, IfOk, OnOk};
+ghost use Rattle.std.specs.Prelude.{◌≡◌, ◌<◌, [], None, true, length, position, IfOk, OnOk};
 ghost use Rattle.std.specs.Str.{bytes_eq};
+ghost use Rattle.plan_words.specs.Names.{is_name};
 ghost use Rattle.plan_words.specs.Reading.{file_name};
 ghost use Rattle.plan_words.specs.Steps.{GivesOr};
-ghost use Rattle.fragment_plan.specs.Fragments.{fold_by, scan_by, merge, work_by, work, shaped, line, fragment_of};
+ghost use Rattle.fragment_plan.specs.Fragments.{fold_by, scan_by, merge, work_by, work, named_fragment, fragment_of};
 
-use crate::columns::{Columns, read_column, read_column_list};
-use crate::earlier::KnownNames;
 use crate::fragment::{FoldKind, Fragment, Scan, Work};
+use crate::names::Names;
 use crate::numbers::Numbers;
 use crate::shape::{Shape, is_of_one_shape};
-use crate::sources::{read_after, read_new_name, read_sources};
 use crate::test::Tests;
 use crate::test_reader::read_tests;
 use outside::{Name, NoMemory};
+use plan_names::{
+    Columns, KnownNames, read_after, read_column, read_column_list, read_new_name, read_sources,
+};
 use plan_words::{PlanKind, Stop, name_of, read_end, read_file_name, read_keyword, read_word};
 use std::alloc::Global;
 
@@ -66,7 +68,7 @@ fn read_scan_by<'a>(alloc: Global, found: &[u8], left: &'a [u8]) -> Result<(Work
     let (tests, columns, rest) = read_tests(alloc, columns, rest)?;
     let scan = Scan {
         file,
-        columns: columns.into_names(),
+        columns: Names::new(columns.into_vec()),
         fold,
         tests: Tests::new(tests),
     };
@@ -102,6 +104,31 @@ fn read_work<'a>(
     read_work_by(alloc, earlier, found, rest)
 }
 
+/// The fragment of a line, behind its name, where earlier lines have these names and shapes.
+fn read_named(
+    alloc: Global,
+    earlier: &KnownNames<'_>,
+    shapes: &[Shape],
+    found: &[u8],
+    left: &[u8],
+) -> Result<Fragment, Stop>
+    requires { is_name found.now ≡ true }
+    ensures read { GivesOr (λ x. x) result (named_fragment earlier.now shapes.now found.now left.now) }
+    ensures name { IfOk result (λ x. x.name ≡ found.now) }
+{
+    let (work, rest) = read_work(alloc, earlier, left)?;
+    let (after, rest) = read_after(alloc, earlier, rest)?;
+    read_end(rest)?;
+    if !is_of_one_shape(shapes, &work) {
+        return Err(Stop::Fault(PlanKind::ShapeDiffers));
+    }
+    let Ok(name) = name_of(alloc, found) else {
+        return Err(Stop::NoMemory);
+    };
+    let after = Numbers::new(after);
+    Ok(Fragment { name, work, after })
+}
+
 /// The name and the fragment of a whole line, behind fragments of these names and shapes.
 #[tactic(auto, unfolding(crate::specs::Fragments::fragment_of, crate::specs::Fragments::line))]
 pub(crate) fn read_line<'a>(
@@ -116,15 +143,6 @@ pub(crate) fn read_line<'a>(
     ensures room { OnOk result (length earlier.now < 1000) }
 {
     let (found, rest) = read_new_name(earlier, text)?;
-    let (work, rest) = read_work(alloc, earlier, rest)?;
-    let (after, rest) = read_after(alloc, earlier, rest)?;
-    read_end(rest)?;
-    if !is_of_one_shape(shapes, &work) {
-        return Err(Stop::Fault(PlanKind::ShapeDiffers));
-    }
-    let Ok(name) = name_of(alloc, found) else {
-        return Err(Stop::NoMemory);
-    };
-    let after = Numbers::new(after);
-    Ok((found, Fragment { name, work, after }))
+    let fragment = read_named(alloc, earlier, shapes, found, rest)?;
+    Ok((found, fragment))
 }

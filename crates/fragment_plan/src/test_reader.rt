@@ -2,11 +2,12 @@
 
 ghost use Rattle.std.specs.Prelude.{◌≡◌};
 ghost use Rattle.plan_words.specs.Steps.{Gives, GivesOr};
-ghost use Rattle.fragment_plan.specs.Tests.{op_of, is_equality, may_compare, compared, null_check_by, null_check, check_by, check, one_test, more_tests, tests};
+ghost use Rattle.fragment_plan.specs.Tests.{op_of, is_equality, may_compare, compared, null_check_by, null_check};
+ghost use Rattle.fragment_plan.specs.Tests.{check_by, check, one_test, more_tests, tests};
 
-use crate::columns::{Columns, read_column};
 use crate::test::{Check, Op, Test};
 use orc_values::Value;
+use plan_names::{Columns, read_column};
 use plan_words::{PlanKind, Stop, read_keyword, read_literal, read_name, read_option, read_word};
 use std::alloc::Global;
 

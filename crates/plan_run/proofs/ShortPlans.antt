@@ -6,7 +6,7 @@ use Rattle.plan_words.specs.Reading.{and_then, end_of_line, name}
 use Rattle.plan_words.specs.Lines.{is_skipped, lines_of, without_return}
 use Rattle.fragment_plan.specs.declared.fragment.Fragment.{Fragment}
 use Rattle.fragment_plan.specs.declared.shape.Shape.{Shape}
-use Rattle.fragment_plan.specs.Sources.{after, fresh, new_name}
+use Rattle.plan_names.specs.Sources.{after, fresh, new_name}
 use Rattle.fragment_plan.specs.Shapes.{shapes_of}
 use Rattle.fragment_plan.specs.Fragments.{fragment_of, line, names_of, shaped, work}
 use Rattle.fragment_plan.specs.Plan.{on_line, plan_from, plan_of, with_line}

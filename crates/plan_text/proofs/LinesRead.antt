@@ -12,9 +12,9 @@ use Rattle.fragment_plan.specs.declared.fragment.Work.TheVariants as work_is
 use Rattle.fragment_plan.specs.declared.fragment.FoldKind.{FoldKind}
 use Rattle.fragment_plan.specs.declared.fragment.FoldKind.TheVariants as fold
 use Rattle.fragment_plan.specs.declared.shape.Shape.{Shape}
-use Rattle.fragment_plan.specs.Columns.{column_list}
+use Rattle.plan_names.specs.Columns.{column_list}
 use Rattle.fragment_plan.specs.Tests.{tests}
-use Rattle.fragment_plan.specs.Sources.{sources, after, new_name}
+use Rattle.plan_names.specs.Sources.{sources, after, new_name}
 use Rattle.fragment_plan.specs.Fragments.{fold_by, scan_by, work, line, fragment_of}
 use Rattle.plan_text.specs.Written.{spaced, name_at, list_text, tests_text, fold_text, work_text, after_text, line_text}
 use Rattle.plan_text.specs.Plain.{IsDistinct, named, IsFold, places_of, IsScan, AreEarlier, IsWork, IsPlain}

@@ -6,8 +6,8 @@ use Rattle.std.specs.Str.{bytes_eq}
 use Rattle.std.proofs.lemmas.List.{take_more, length-take-le}
 use Rattle.std.proofs.lemmas.List.Elements.{All-head, All-tail}
 use Rattle.plan_words.specs.Names.{is_name}
-use Rattle.fragment_plan.specs.Columns.{placed, column, all_placed}
-use Rattle.fragment_plan.specs.Sources.{all_known}
+use Rattle.plan_names.specs.Columns.{placed, column, all_placed}
+use Rattle.plan_names.specs.Sources.{all_known}
 use Rattle.plan_text.specs.Written.{spaced, name_at}
 use Rattle.plan_text.specs.Plain.{IsDistinct, named}
 use Rattle.plan_text.proofs.WordsRead.{both, Ends, name_spaced}

@@ -1,7 +1,7 @@
 use Rattle.std.proofs.Common.{◌∙◌, sym, ap, position, List, ℕ}
 use Rattle.std.specs.Str.{bytes_eq}
-use Rattle.fragment_plan.proofs.Positions.{position_map}
-use Rattle.fragment_plan.proofs.earlier.KnownNames.find.Goals as goal
+use Rattle.plan_names.proofs.Positions.{position_map}
+use Rattle.plan_names.proofs.earlier.KnownNames.find.Goals as goal
 
 pub returns : goal.returns
 returns c =

@@ -5,9 +5,8 @@ ghost use Rattle.std.specs.Str.{bytes_eq};
 ghost use Rattle.plan_words.specs.Names.{is_name, all_names};
 ghost use Rattle.plan_words.specs.Pieces.{pieces_of};
 ghost use Rattle.plan_words.specs.Steps.{GivesOr};
-ghost use Rattle.fragment_plan.specs.Columns.{placed, column, all_placed, column_list};
+ghost use Rattle.plan_names.specs.Columns.{placed, column, all_placed, column_list};
 
-use crate::names::Names;
 use outside::Name;
 use plan_words::{Pieces, PlanKind, Stop, name_of, read_name, read_name_list};
 use std::alloc::Global;
@@ -23,7 +22,7 @@ const MOST_NAMES: usize = 64;
 ///
 /// Contracts see it as the list of their names.
 #[derive(Drop)]
-pub(crate) struct Columns {
+pub struct Columns {
     names: Vec<Name>,
 }
 
@@ -39,7 +38,7 @@ impl Model for Columns {
 
 impl Columns {
     /// No column.
-    pub(crate) fn new(alloc: Global) -> Columns
+    pub fn new(alloc: Global) -> Columns
         ensures { result ≡ [] }
     {
         Columns {
@@ -47,11 +46,11 @@ impl Columns {
         }
     }
 
-    /// The names of the columns.
-    pub(crate) fn into_names(self) -> Names
-        ensures { result ≡ self }
+    /// The names of the columns, in that order.
+    pub fn into_vec(self) -> Vec<Name>
+        ensures { result.items ≡ self }
     {
-        Names::new(self.names)
+        self.names
     }
 
     /// The place of a column.
@@ -98,7 +97,7 @@ fn find_column(columns: &[Name], wanted: &[u8]) -> Option<usize>
 
 /// A column's place, with the columns that are named then, and what is left.
 #[tactic(auto, unfolding(crate::specs::Columns::column))]
-pub(crate) fn read_column(
+pub fn read_column(
     alloc: Global,
     columns: Columns,
     left: &[u8],
@@ -143,10 +142,7 @@ fn is_too_long(list: &[u8]) -> bool
 
 /// The places of the first columns of a line, with these columns, and what is left.
 #[tactic(auto, unfolding(crate::specs::Columns::column_list))]
-pub(crate) fn read_column_list(
-    alloc: Global,
-    left: &[u8],
-) -> Result<(Vec<u32>, Columns, &[u8]), Stop>
+pub fn read_column_list(alloc: Global, left: &[u8]) -> Result<(Vec<u32>, Columns, &[u8]), Stop>
     ensures { GivesOr (λ x. ((x.0.items, x.1), x.2.now)) result (column_list left.now) }
 {
     let (list, rest) = read_name_list(left)?;

@@ -1,7 +1,7 @@
 use Rattle.std.proofs.Common.{◌≡◌, [], length}
 use Rattle.plan_words.specs.Pieces.{pieces_of}
-use Rattle.fragment_plan.specs.Sources.{all_known}
-use Rattle.fragment_plan.proofs.sources.find_all.Given as goal
+use Rattle.plan_names.specs.Sources.{all_known}
+use Rattle.plan_names.proofs.sources.find_all.Given as goal
 
 abbrev pub invariant-loop-piece : goal.invariant-loop-piece
 invariant-loop-piece l = all_known l.earlier l.found.items l.pieces ≡ all_known l.earlier [] (pieces_of 44 l.list)

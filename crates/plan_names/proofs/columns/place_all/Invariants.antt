@@ -1,8 +1,8 @@
 use Rattle.std.proofs.Common.{◌≡◌, [], true, length}
 use Rattle.plan_words.specs.Pieces.{pieces_of}
 use Rattle.plan_words.specs.Names.{all_names}
-use Rattle.fragment_plan.specs.Columns.{all_placed}
-use Rattle.fragment_plan.proofs.columns.place_all.Given as goal
+use Rattle.plan_names.specs.Columns.{all_placed}
+use Rattle.plan_names.proofs.columns.place_all.Given as goal
 
 abbrev pub invariant-loop-piece : goal.invariant-loop-piece
 invariant-loop-piece l =

@@ -1,8 +1,8 @@
 use Rattle.std.proofs.Common.{◌∙◌, sym, ap, refl, map, position, List, ℕ, ◌++◌, ◌∷◌, []}
 use Rattle.std.proofs.lemmas.List.{map_push}
 use Rattle.std.specs.Str.{bytes_eq}
-use Rattle.fragment_plan.proofs.Positions.{position_map, none_is_among}
-use Rattle.fragment_plan.proofs.earlier.KnownNames.add.Goals as goal
+use Rattle.plan_names.proofs.Positions.{position_map, none_is_among}
+use Rattle.plan_names.proofs.earlier.KnownNames.add.Goals as goal
 
 pub returns : goal.returns
 returns c =

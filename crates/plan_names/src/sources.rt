@@ -5,7 +5,7 @@ ghost use Rattle.std.specs.Str.{bytes_eq};
 ghost use Rattle.plan_words.specs.Names.{is_name};
 ghost use Rattle.plan_words.specs.Pieces.{pieces_of};
 ghost use Rattle.plan_words.specs.Steps.{Gives, GivesOr};
-ghost use Rattle.fragment_plan.specs.Sources.{all_known, sources, after, new_name};
+ghost use Rattle.plan_names.specs.Sources.{all_known, sources, after, new_name};
 
 use crate::earlier::KnownNames;
 use plan_words::{Pieces, PlanKind, Stop, read_name, read_name_list, read_option};
@@ -34,7 +34,7 @@ fn find_all(alloc: Global, earlier: &KnownNames<'_>, list: &[u8]) -> Result<Vec<
 
 /// The fragments that a list names, and what is left.
 #[tactic(auto, unfolding(crate::specs::Sources::sources))]
-pub(crate) fn read_sources<'a>(
+pub fn read_sources<'a>(
     alloc: Global,
     earlier: &KnownNames<'_>,
     left: &'a [u8],
@@ -51,7 +51,7 @@ pub(crate) fn read_sources<'a>(
 
 /// The fragments behind which this one is to be done, and what is left.
 #[tactic(auto, unfolding(crate::specs::Sources::after))]
-pub(crate) fn read_after<'a>(
+pub fn read_after<'a>(
     alloc: Global,
     earlier: &KnownNames<'_>,
     left: &'a [u8],
@@ -67,7 +67,7 @@ pub(crate) fn read_after<'a>(
 
 /// A name that stands on no earlier line, and what is left.
 #[tactic(auto, unfolding(crate::specs::Sources::new_name))]
-pub(crate) fn read_new_name<'a>(
+pub fn read_new_name<'a>(
     earlier: &KnownNames<'_>,
     left: &'a [u8],
 ) -> Result<(&'a [u8], &'a [u8]), PlanKind>

@@ -1,5 +1,5 @@
 use Rattle.std.proofs.Common.{length}
-use Rattle.fragment_plan.proofs.columns.+find_column.Given as goal
+use Rattle.plan_names.proofs.columns.+find_column.Given as goal
 
 abbrev pub decreases-find_column : goal.decreases-find_column
 decreases-find_column l = length l.columns.now

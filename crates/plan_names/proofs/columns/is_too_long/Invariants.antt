@@ -1,6 +1,6 @@
 use Rattle.std.proofs.Common.{◌≡◌, ◌+◌, ◌≤◌, length}
 use Rattle.plan_words.specs.Pieces.{pieces_of}
-use Rattle.fragment_plan.proofs.columns.is_too_long.Given as goal
+use Rattle.plan_names.proofs.columns.is_too_long.Given as goal
 
 abbrev pub invariant-loop-count : goal.invariant-loop-count
 invariant-loop-count l = (l.count + length l.pieces ≡ length (pieces_of 44 l.list)) × (l.count ≤ 64)
