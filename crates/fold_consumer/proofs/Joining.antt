@@ -20,8 +20,9 @@ use Rattle.batch_masks.specs.Rows.{rows_of}
 use Rattle.fragment_plan.specs.declared.fragment.Scan.{Scan}
 use Rattle.fragment_plan.specs.declared.fragment.FoldKind.{FoldKind}
 use Rattle.fragment_plan.specs.declared.fragment.FoldKind.TheVariants as kind
-use Rattle.fragment_folds.specs.declared.state.State.{State}
-use Rattle.fragment_folds.specs.Folding.{FoldOf, begun, folded, nothing, with_rows, rows_in}
+use Rattle.fold_rows.specs.declared.state.State.{State}
+use Rattle.fold_rows.specs.States.{nothing, with_rows}
+use Rattle.fragment_folds.specs.Folding.{FoldOf, begun, folded, rows_in}
 use Rattle.fragment_meaning.specs.ScanColumns.{by_number, in_named_order}
 use Rattle.fold_consumer.specs.Pieces.{piece_rows, rows_given, with_piece, with_pieces, Passes}
 use Rattle.fold_consumer.specs.Laws.{FoldsTheRows}

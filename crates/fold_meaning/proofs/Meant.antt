@@ -24,7 +24,8 @@ use Rattle.batch_masks.specs.Totals.{numbers_in, has_some, plus_all}
 use Rattle.fragment_outcome.specs.declared.answer.Answer.{Answer}
 use Rattle.fragment_outcome.specs.declared.answer.Answer.TheVariants as answer
 use Rattle.fragment_folds.specs.declared.faults.Overflow.{Overflow}
-use Rattle.fragment_folds.specs.Folding.{column_of, once, nothing, with_rows, begun, folded, finished, is_i64}
+use Rattle.fold_rows.specs.States.{column_of, once, nothing, with_rows}
+use Rattle.fragment_folds.specs.Folding.{begun, folded, finished, is_i64}
 use Rattle.fold_meaning.specs.Meaning.{sum_of, number_of, AreGroups, IsAnswerOf}
 use Rattle.fold_meaning.specs.Meaning.IsAnswerOf.{rows as rows_are, count as count_is, count_overflows as count_passes, null as null_is, sum as sum_is, sum_overflows as sum_passes, group as group_is, group_overflows as group_passes}
 

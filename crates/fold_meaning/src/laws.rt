@@ -10,7 +10,8 @@ use group_counts::laws::counts_are_of_the_list;
 
 /// The answer of a fold of all rows of a scan is what is meant by its rows that pass.
 pub fn a_fold_answers_what_is_meant()
-    ensures { (scan : Scan) (rows : List RowValues) → IsAnswerOf scan.fold (passing scan.tests rows) (finished (folded (begun scan) rows).state) }
+    ensures { (scan : Scan) (rows : List RowValues) →
+        IsAnswerOf scan.fold (passing scan.tests rows) (finished (folded (begun scan) rows).state) }
 {
     counts_are_of_the_list();
 }

@@ -1,5 +1,5 @@
 -- Any cutting of rows, or of answers, gives the same.
-use Rattle.std.proofs.Common.{◌≡◌, ℕ, ◌+◌, ◌-◌, ◌^◌, min, ℤ, ◌+ℤ◌, Bool, true, false, ◌||◌, List, [], ◌∷◌, ◌++◌, length, map, filter, refl, sym, ◌∙◌, ap, arith, append_assoc, length-append}
+use Rattle.std.proofs.Common.{◌≡◌, ℕ, ◌+◌, ℤ, ◌+ℤ◌, Bool, true, false, ◌||◌, List, [], ◌∷◌, ◌++◌, length, map, refl, sym, ◌∙◌, ap, arith, append_assoc, length-append}
 use Rattle.std.proofs.lemmas.List.{map-append}
 use Rattle.std.proofs.lemmas.List.Elements.{filter-append}
 use Rattle.orc_values.specs.declared.value.Value.{Value}
@@ -13,9 +13,10 @@ use Rattle.batch_masks.specs.Rows.{field, passes, passing}
 use Rattle.batch_masks.specs.Totals.{numbers_in, plus_all, has_some, with_numbers}
 use Rattle.batch_masks.specs.declared.total.Total.{Total}
 use Rattle.fragment_outcome.specs.declared.answer.Answer.{Answer}
-use Rattle.fragment_folds.specs.declared.state.State.{State}
-use Rattle.fragment_folds.specs.declared.state.State.TheVariants as state
-use Rattle.fragment_folds.specs.Folding.{FoldOf, picked, column_of, once, with_rows, folded}
+use Rattle.fold_rows.specs.declared.state.State.{State}
+use Rattle.fold_rows.specs.declared.state.State.TheVariants as state
+use Rattle.fold_rows.specs.States.{picked, column_of, once, with_rows}
+use Rattle.fragment_folds.specs.Folding.{FoldOf, folded}
 use Rattle.fragment_folds.specs.Merging.{MergeOf, merged, merged_all}
 use Rattle.fragment_folds.proofs.Folds.{added_all-append}
 

@@ -1,86 +1,23 @@
 -- What rows bring to a fold.
-use Rattle.std.proofs.Common.{◌≡◌, ◌<◌, ℕ, zero, suc, ◌+◌, ◌^◌, min, Bool, true, false, List, [], ◌∷◌, ◌++◌, length, take, map, get_or, replicate, if◌then◌else◌, filter, cond, refl, sym, ◌∙◌, ap, arith, append_assoc, append-nil, add-one}
-use Rattle.std.proofs.lemmas.List.{map-append, length-map, length-replicate}
+use Rattle.std.proofs.Common.{◌≡◌, ◌<◌, ℕ, ◌+◌, ◌^◌, Bool, List, [], ◌∷◌, ◌++◌, length, map, replicate, refl, sym, ◌∙◌, ap, arith}
+use Rattle.std.proofs.lemmas.List.{length-map, length-replicate}
 use Rattle.orc_values.specs.declared.value.Value.{Value}
-use Rattle.orc_values.specs.declared.value.Value.TheVariants as value
-use Rattle.orc_values.specs.Woven.{present_count}
 use Rattle.fragment_plan.specs.declared.fragment.FoldKind.TheVariants as kind
 use Rattle.fragment_plan.specs.declared.fragment.Scan.{Scan}
 use Rattle.group_counts.specs.Order.{value_cmp}
 use Rattle.group_counts.specs.Tally.{plus, added, added_all}
 use Rattle.group_counts.specs.Entries.{Entries}
 use Rattle.batch_masks.specs.Kept.{kept}
-use Rattle.batch_masks.specs.KeptLaws.{kept_more, kept-filter}
-use Rattle.batch_masks.specs.Rows.{field, passes, passing, row_at, rows_of}
-use Rattle.batch_masks.specs.RowsLaws.{get_or-rows_from, length-rows_from, column_of_rows}
-use Rattle.fragment_folds.specs.declared.state.State.{State}
-use Rattle.fragment_folds.specs.declared.state.State.TheVariants as state
-use Rattle.fragment_folds.specs.Folding.{FoldOf, picked, column_of, once, with_rows, folded}
+use Rattle.batch_masks.specs.KeptLaws.{kept-filter}
+use Rattle.batch_masks.specs.Rows.{passes, passing, rows_of}
+use Rattle.batch_masks.specs.RowsLaws.{length-rows_from}
+use Rattle.fold_rows.specs.declared.state.State.{State}
+use Rattle.fold_rows.specs.States.{with_rows}
+use Rattle.fragment_folds.specs.Folding.{FoldOf, folded}
 
 pub added_all-append : (es fs gs : Entries) → added_all value_cmp es (fs ++ gs) ≡ added_all value_cmp (added_all value_cmp es fs) gs
 added_all-append es [] gs = refl
 added_all-append es (f ∷ fs) gs = added_all-append (added value_cmp es f.0 f.1) fs gs
-
--- one row more of those that pass
-pub once_more : (start now : Entries) (flags : List Bool) (column : List Value) (i : ℕ) → length flags ≡ length column → i < length column
-    → now ≡ added_all value_cmp start (once (kept (take i flags) (take i column)))
-    → (if get_or flags i false then added value_cmp now (get_or column i value.Null) 1 else now) ≡ added_all value_cmp start (once (kept (take (i + 1) flags) (take (i + 1) column)))
-once_more start now flags column i len lt is = sym (
-    ap (λ (l : List Value). added_all value_cmp start (once l)) (kept_more flags column i false value.Null len lt)
-    ∙ by (get_or flags i false))
-  where
-    front : List Value
-    front = kept (take i flags) (take i column)
-
-    by : (p : Bool) → added_all value_cmp start (once (kept (take i flags) (take i column) ++ (if p then get_or column i value.Null ∷ [] else [])))
-        ≡ (if p then added value_cmp now (get_or column i value.Null) 1 else now)
-    by true =
-        ap (added_all value_cmp start) (map-append (λ (key : Value). (key, 1)) (kept (take i flags) (take i column)) (get_or column i value.Null ∷ []))
-        ∙ added_all-append start (once (kept (take i flags) (take i column))) ((get_or column i value.Null, 1) ∷ [])
-        ∙ ap (λ (es : Entries). added value_cmp es (get_or column i value.Null) 1) (sym is)
-    by false = ap (λ (l : List Value). added_all value_cmp start (once l)) (append-nil (kept (take i flags) (take i column))) ∙ sym is
-
-pub rows_more : (start now : List (List Value)) (places : List ℕ) (flags : List Bool) (columns : List (List Value)) (n i : ℕ) → length flags ≡ n → i < n
-    → now ≡ start ++ map (picked places) (kept (take i flags) (take i (rows_of n columns)))
-    → now ++ (if get_or flags i false then picked places (row_at columns i) ∷ [] else []) ≡ start ++ map (picked places) (kept (take (i + 1) flags) (take (i + 1) (rows_of n columns)))
-rows_more start now places flags columns n i len lt is =
-    let none : List Value = [] in
-    let rows = rows_of n columns in
-    let long : length rows ≡ n = length-rows_from 0 n columns in
-    let zero_i : 0 + i ≡ i = omega arith in
-    let here : get_or rows i none ≡ row_at columns i = get_or-rows_from 0 n i columns none lt ∙ ap (row_at columns) zero_i in
-    sym (ap (λ (l : List (List Value)). start ++ map (picked places) l) (kept_more flags rows i false none (len ∙ sym long) (omega arith))
-    ∙ ap (λ (r : List Value). start ++ map (picked places) (kept (take i flags) (take i rows) ++ (if get_or flags i false then r ∷ [] else []))) here
-    ∙ by (get_or flags i false))
-  where
-    by : (p : Bool) → start ++ map (picked places) (kept (take i flags) (take i (rows_of n columns)) ++ (if p then row_at columns i ∷ [] else []))
-        ≡ now ++ (if p then picked places (row_at columns i) ∷ [] else [])
-    by true =
-        ap (λ (l : List (List Value)). start ++ l) (map-append (picked places) (kept (take i flags) (take i (rows_of n columns))) (row_at columns i ∷ []))
-        ∙ sym (append_assoc start (map (picked places) (kept (take i flags) (take i (rows_of n columns)))) (picked places (row_at columns i) ∷ []))
-        ∙ ap (λ (l : List (List Value)). l ++ picked places (row_at columns i) ∷ []) (sym is)
-    by false =
-        ap (λ (l : List (List Value)). start ++ map (picked places) l) (append-nil (kept (take i flags) (take i (rows_of n columns))))
-        ∙ sym is ∙ sym (append-nil now)
-
--- as many rows are kept as flags are set
-pub length-kept : {A : Type 0} (flags : List Bool) (rows : List A) → length flags ≡ length rows → length (kept flags rows) ≡ present_count flags
-length-kept [] [] len = refl
-length-kept [] (row ∷ rows) len = absurd (omega arith)
-length-kept (p ∷ flags) [] len = absurd (omega arith)
-length-kept (true ∷ flags) (row ∷ rows) len = omega (arith, length-kept flags rows (omega arith))
-length-kept (false ∷ flags) (row ∷ rows) len = omega (arith, length-kept flags rows (omega arith))
-
-kept-map : {A B : Type 0} (f : A → B) (flags : List Bool) (rows : List A) → map f (kept flags rows) ≡ kept flags (map f rows)
-kept-map f [] rows = refl
-kept-map f (p ∷ flags) [] = refl
-kept-map {B = B} f (true ∷ flags) (row ∷ rows) = ap (λ (l : List B). f row ∷ l) (kept-map f flags rows)
-kept-map f (false ∷ flags) (row ∷ rows) = kept-map f flags rows
-
--- a column of the rows that are kept is what is kept of the column
-pub column_kept : (flags : List Bool) (columns : List (List Value)) (n c : ℕ) → c < length columns → length (get_or columns c []) ≡ n
-    → kept flags (get_or columns c []) ≡ column_of c (kept flags (rows_of n columns))
-column_kept flags columns n c lt len = ap (kept flags) (sym (column_of_rows columns n c lt len)) ∙ sym (kept-map (λ row. field row c) flags (rows_of n columns))
 
 map-same : (rows : List (List Value)) → map (λ (row : List Value). row) rows ≡ rows
 map-same [] = refl
@@ -103,13 +40,6 @@ counted f n count all =
     ap (λ (k : ℕ). record { scan = f.scan; rows = plus f.rows k; state = with_rows kind.Count f.state rows }) (sym (length-replicate n []))
     ∙ ap (λ kind. record { scan = f.scan; rows = plus f.rows (length rows); state = with_rows kind f.state rows }) (sym count)
     ∙ ap (λ (l : List (List Value)). record { scan = f.scan; rows = plus f.rows (length rows); state = with_rows f.scan.fold f.state l }) (sym (passing-none rows) ∙ ap (λ tests. passing tests rows) (sym all))
-
--- counting looks at the number of rows alone
-pub count-length : (s : State) (xs ys : List (List Value)) → length xs ≡ length ys → with_rows kind.Count s xs ≡ with_rows kind.Count s ys
-count-length (state.Rows table) xs ys len = refl
-count-length (state.Count count) xs ys len = ap (λ (n : ℕ). state.Count (plus count n)) len
-count-length (state.Sum total) xs ys len = refl
-count-length (state.Group counts) xs ys len = refl
 
 -- a mask of all rows has a flag for each
 pub length-mask : (scan : Scan) (n : ℕ) (columns : List (List Value)) (mask : List Bool) → mask ≡ map (passes scan.tests) (rows_of n columns) → length mask ≡ n

@@ -4,7 +4,6 @@ use Rattle.group_counts.specs.Order.{value_cmp}
 use Rattle.group_counts.specs.Tally.{added_all}
 use Rattle.group_counts.specs.Entries.{all_fit}
 use Rattle.batch_masks.specs.Totals.{with_numbers}
-use Rattle.batch_masks.specs.declared.total.Total.{Total}
 use Rattle.fragment_outcome.specs.declared.answer.Answer.{Answer}
 use Rattle.fragment_outcome.specs.declared.answer.Answer.TheVariants as answer
 use Rattle.fragment_folds.specs.declared.joined.Joined.{Joined}

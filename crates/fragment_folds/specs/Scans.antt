@@ -1,6 +1,5 @@
 -- The scan that a fragment of a plan is (this project's own).
-use Rattle.std.specs.Prelude.{ℕ, List, [], Option, Some, None, slice_get, IsSome}
-use Rattle.std.specs.Option.{unwrap_or, option_and_then}
+use Rattle.std.specs.Prelude.{ℕ, List, [], Option, Some, None, slice_get}
 use Rattle.fragment_plan.specs.declared.fragment.Fragment.{Fragment}
 use Rattle.fragment_plan.specs.declared.fragment.Scan.{Scan}
 use Rattle.fragment_plan.specs.declared.fragment.Work.{Work}

@@ -5,17 +5,16 @@ ghost use Rattle.batch_masks.specs.Rows.{rows_of, passing};
 ghost use Rattle.batch_masks.specs.Totals.{SumOfFew};
 ghost use Rattle.fragment_plan.specs.declared.fragment.FoldKind.TheVariants as kind;
 ghost use Rattle.fragment_plan.specs.Bounds.{ScanInBounds};
-ghost use Rattle.fragment_folds.specs.declared.state.State.TheVariants as state;
+ghost use Rattle.fold_rows.specs.declared.state.State.TheVariants as state;
 ghost use Rattle.fragment_folds.specs.Scans.{scan_at as scan_of, empty_scan};
-ghost use Rattle.fragment_folds.specs.Folding.{begun, folded, with_rows, finished, rows_in, sum_in, nothing};
+ghost use Rattle.fold_rows.specs.States.{with_rows, sum_in, nothing};
+ghost use Rattle.fragment_folds.specs.Folding.{begun, folded, finished, rows_in};
 
 use crate::faults::Overflow;
-use crate::fold_rows::{count_with, with_kept_rows};
-use crate::state::State;
 use batch_masks::{Total, mask_of};
-use fragment_outcome::{Answer, Groups, Table};
-use fragment_plan::{FoldKind, Plan, Scan, Work};
-use group_counts::Counts;
+use fold_rows::{State, count_with, nothing_of, with_kept_rows};
+use fragment_outcome::{Answer, Groups};
+use fragment_plan::{Plan, Scan, Work};
 use orc_values::Column;
 use outside::NoMemory;
 use std::alloc::Global;
@@ -38,7 +37,8 @@ impl Model for Fold {
     ghost use Rattle.std.specs.Option.{unwrap_or};
     ghost use Rattle.batch_masks.specs.Totals.{SumOfFew};
     ghost use Rattle.fragment_folds.specs.Scans.{scan_at, empty_scan};
-    ghost use Rattle.fragment_folds.specs.Folding.{FoldOf, sum_in};
+    ghost use Rattle.fold_rows.specs.States.{sum_in};
+    ghost use Rattle.fragment_folds.specs.Folding.{FoldOf};
 
     ghost Value = { FoldOf };
 
@@ -56,21 +56,6 @@ fn scan_at(plan: &Plan, fragment: u32) -> &Scan
     match &plan.fragments()[fragment as usize].work {
         Work::Scan(scan) => scan,
         Work::Merge(_) => unreachable!(),
-    }
-}
-
-/// What a fold has of no rows.
-fn nothing_of(alloc: Global, fold: &FoldKind) -> State
-    ensures { result ≡ nothing fold.now }
-{
-    match fold {
-        FoldKind::Rows(_) => State::Rows(Table::new(Vec::new(alloc))),
-        FoldKind::Count => State::Count(0),
-        FoldKind::Sum(_) => State::Sum(Total {
-            some: false,
-            sum: 0,
-        }),
-        FoldKind::Group(_) => State::Group(Counts::new(alloc)),
     }
 }
 

@@ -4,7 +4,8 @@ ghost use Rattle.std.specs.Int.{w128};
 ghost use Rattle.batch_masks.specs.Totals.{with_numbers, SumOfFew};
 ghost use Rattle.fragment_outcome.specs.declared.answer.Answer.TheVariants as answer;
 ghost use Rattle.fragment_folds.specs.declared.joined.Joined.TheVariants as joined;
-ghost use Rattle.fragment_folds.specs.Merging.{numbers_of, nothing_like as nothing_of, joined_with, joined_sum, merged, merge_of, answer_of};
+ghost use Rattle.fragment_folds.specs.Merging.{numbers_of, nothing_like as nothing_of, joined_with};
+ghost use Rattle.fragment_folds.specs.Merging.{joined_sum, merged, merge_of, answer_of};
 
 use crate::faults::MergeFault;
 use crate::joined::Joined;

@@ -31,7 +31,8 @@ use Rattle.fold_consumer.specs.Laws.{FoldsTheRows, WalksFoldTheRows}
 use Rattle.row_bounds.specs.Bounds.{AreBytes}
 use Rattle.row_bounds.specs.Laws.{TailsAreBounded}
 use Rattle.tail_faults.specs.Laws.{StripeFootersHaveThreeFaults}
-use Rattle.fragment_scan.specs.Outcomes.{IsOutcomeFor, broken_failure}
+use Rattle.scan_failures.specs.Faults.{broken_failure}
+use Rattle.fragment_scan.specs.Outcomes.{IsOutcomeFor}
 use Rattle.fragment_scan.specs.Scanned.{FoldsStripes}
 use Rattle.fragment_scan.proofs.Forms.{fold_is_for, answered_no_read, if_answered, broken_no_read, broken_unended, broken_is_for, broken_so}
 

@@ -27,14 +27,16 @@ use Rattle.fragment_outcome.specs.declared.failure.Failure.TheVariants as failur
 use Rattle.fragment_outcome.specs.declared.outcome.Outcome.{Outcome}
 use Rattle.fragment_outcome.specs.declared.outcome.Outcome.TheVariants as outcome
 use Rattle.fragment_folds.specs.declared.faults.Overflow.{Overflow}
-use Rattle.fragment_folds.specs.declared.state.State.{State}
-use Rattle.fragment_folds.specs.declared.state.State.TheVariants as state
-use Rattle.fragment_folds.specs.Folding.{FoldOf, begun, folded, nothing, with_rows, finished, is_i64}
+use Rattle.fold_rows.specs.declared.state.State.{State}
+use Rattle.fold_rows.specs.declared.state.State.TheVariants as state
+use Rattle.fold_rows.specs.States.{nothing, with_rows}
+use Rattle.fragment_folds.specs.Folding.{FoldOf, begun, folded, finished, is_i64}
 use Rattle.fragment_meaning.specs.ScanColumns.{columns_named, first_misfit, if_serving, if_named, scan_columns}
 use Rattle.fragment_meaning.specs.ScanOutcome.{failed, answered, rows_failure}
 use Rattle.fold_consumer.specs.Pieces.{with_piece, with_pieces}
 use Rattle.tail_faults.specs.Laws.{IsFooterFault, StripeFootersHaveThreeFaults}
-use Rattle.fragment_scan.specs.Outcomes.{IsScanFailure, IsAnswerFor, IsOutcomeFor, footer_failure, broken_failure}
+use Rattle.scan_failures.specs.Faults.{footer_failure, broken_failure}
+use Rattle.fragment_scan.specs.Outcomes.{IsScanFailure, IsAnswerFor, IsOutcomeFor}
 use Rattle.fragment_scan.specs.Scanned.{IfOverflow, IfEnded, IsReadFault}
 
 -- ---- a fold ends in its own form

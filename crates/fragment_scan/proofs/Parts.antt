@@ -20,7 +20,8 @@ use Rattle.fragment_outcome.specs.declared.failure.Failure.{Failure}
 use Rattle.fragment_outcome.specs.declared.outcome.Outcome.{Outcome}
 use Rattle.fragment_meaning.specs.ScanColumns.{scan_columns}
 use Rattle.fragment_meaning.specs.ScanOutcome.{failed, tail_failure, IsOutcomeOfColumns, IsOutcomeOfTail, IsOutcomeOn}
-use Rattle.fragment_scan.specs.Outcomes.{IsOutcomeFor, tail_outcome}
+use Rattle.scan_failures.specs.Faults.{tail_outcome}
+use Rattle.fragment_scan.specs.Outcomes.{IsOutcomeFor}
 use Rattle.fragment_scan.specs.Scanned.{IfDecided, IsReadFault, RestByColumns, ScansFile, ScansParts, FoldsStripes}
 use Rattle.fragment_scan.proofs.Forms.{columns_so}
 

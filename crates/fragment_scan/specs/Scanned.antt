@@ -54,7 +54,8 @@ IfDecided answer P = IfOk answer (λ o. o ≢ failed failure.ReadFault → P o)
 
 -- ---- acts
 
--- with an answer or an overflow, a walk over all stripes by ascending numbers of the columns, each once; with no column no stripe's footer is read
+-- with an answer or an overflow, a walk over all stripes by ascending numbers of the columns, each once; with no column no stripe's
+-- footer is read
 abbrev pub WalkedWhole : Option Files → FileRef → List Stripe → List ReadColumn → List Act → Result Outcome NoMemory → Type 0
 WalkedWhole files file stripes named rest answer =
     IfEnded answer ((pieces : List Piece) × AreStripeWalks files file (by_number named) stripes pieces rest)
@@ -72,7 +73,8 @@ RestIs files file scan (Ok parts) rest answer = RestByColumns files file parts.s
 
 -- The acts of a scan: in front the reads of the file's tail, which are, where the file is told, its last bytes and then its footer; and
 -- then those of the walk.
-pub record ScanActs (files : Option Files) (file : FileRef) (scan : Scan) (acts : List Act) (answer : Result Outcome NoMemory) : Type 0 where
+pub record ScanActs (files : Option Files) (file : FileRef) (scan : Scan) (acts : List Act) (answer : Result Outcome NoMemory)
+    : Type 0 where
   pub entries : List ReadEntry
   pub rest : List Act
   pub found : Result Tail TailFault

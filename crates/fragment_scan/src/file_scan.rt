@@ -9,7 +9,6 @@ ghost use Rattle.fragment_folds.specs.Folding.{begun};
 ghost use Rattle.fold_consumer.specs.Folding.{CountsAll};
 ghost use Rattle.fragment_scan.specs.Scanned.{ScansFile, ScansParts};
 
-use crate::outcomes::tail_outcome;
 use crate::stripes_fold::fold_stripes;
 use empty_scans::laws::scans_without_columns_count;
 use fragment_folds::Fold;
@@ -20,6 +19,7 @@ use orc_tail::{Tail, read_tail};
 use orc_walk::Stop;
 use outside::{FileRef, NoMemory, World};
 use scan_columns::{by_number, find_columns};
+use scan_failures::tail_outcome;
 use std::alloc::Global;
 
 /// The scan that a fragment is.

@@ -2,7 +2,6 @@
 #![tactic(auto)]
 
 mod file_scan;
-mod outcomes;
 mod store_scan;
 mod stripes_fold;
 

@@ -6,7 +6,6 @@ ghost use Rattle.fragment_folds.specs.Folding.{begun};
 ghost use Rattle.fold_consumer.specs.Folding.{GoesBy};
 ghost use Rattle.fragment_scan.specs.Scanned.{FoldsStripes};
 
-use crate::outcomes::{answer_outcome, broken_failure};
 use fold_consumer::FoldConsumer;
 use fold_consumer::laws::a_walk_folds_the_rows;
 use fragment_folds::Fold;
@@ -16,6 +15,7 @@ use orc_tail::Tail;
 use orc_walk::{Stop, walk_stripes};
 use outside::{FileRef, NoMemory, World};
 use row_bounds::laws::files_are_bounded;
+use scan_failures::{answer_outcome, broken_failure};
 use std::alloc::Global;
 use tail_faults::laws::stripe_footers_have_three_faults;
 

@@ -1,9 +1,9 @@
-use Rattle.std.proofs.Common.{◌∙◌, ◌+◌, ◌≡◌, length, map, sym, ap, subst, arith, List, ℕ}
+use Rattle.std.proofs.Common.{◌∙◌, ◌+◌, map, sym, ap, subst, arith, List, ℕ}
 use Rattle.std.proofs.lemmas.Result.{IfOk-weaker}
 use Rattle.orc_values.specs.declared.value.Value.{Value}
 use Rattle.batch_masks.specs.Rows.{rows_of, passes}
 use Rattle.batch_masks.specs.Totals.{SumOfFew}
-use Rattle.fragment_folds.specs.Folding.{with_rows, sum_in}
+use Rattle.fold_rows.specs.States.{with_rows, sum_in}
 use Rattle.fragment_folds.proofs.Folds.{length-mask, kept-mask}
 use Rattle.fragment_folds.proofs.fold.with_batch.Goals as goal
 

@@ -1,4 +1,4 @@
-use Rattle.std.proofs.Common.{◌∙◌, ap, Option, ◌≡◌, ◌<◌, ◌+◌, ◌^◌, arith}
+use Rattle.std.proofs.Common.{ap, Option}
 use Rattle.std.specs.Option.{unwrap_or}
 use Rattle.fragment_plan.specs.declared.fragment.Scan.{Scan}
 use Rattle.fragment_folds.specs.Scans.{scan_at, empty_scan}

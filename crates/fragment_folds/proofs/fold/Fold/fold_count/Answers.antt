@@ -3,9 +3,10 @@ use Rattle.std.specs.Option.{unwrap_or}
 use Rattle.orc_values.specs.declared.value.Value.{Value}
 use Rattle.fragment_plan.specs.declared.fragment.FoldKind.TheVariants as kind
 use Rattle.group_counts.specs.Tally.{plus}
-use Rattle.fragment_folds.specs.declared.state.State.{State}
+use Rattle.fold_rows.specs.declared.state.State.{State}
 use Rattle.fragment_folds.specs.Scans.{scan_at, empty_scan}
-use Rattle.fragment_folds.specs.Folding.{FoldOf, with_rows}
+use Rattle.fold_rows.specs.States.{with_rows}
+use Rattle.fragment_folds.specs.Folding.{FoldOf}
 use Rattle.fragment_folds.proofs.Folds.{counted}
 use Rattle.fragment_folds.proofs.fold.Fold.fold_count.Goals as goal
 

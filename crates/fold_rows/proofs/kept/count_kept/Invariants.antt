@@ -1,0 +1,9 @@
+use Rattle.std.proofs.Common.{◌≡◌, take}
+use Rattle.group_counts.specs.Order.{value_cmp}
+use Rattle.group_counts.specs.Tally.{added_all}
+use Rattle.batch_masks.specs.Kept.{kept}
+use Rattle.fold_rows.specs.States.{once}
+use Rattle.fold_rows.proofs.kept.count_kept.Given as goal
+
+abbrev pub invariant-loop-row : goal.invariant-loop-row
+invariant-loop-row l = l.now ≡ added_all value_cmp l.fn.counts (once (kept (take l.row l.mask) (take l.row l.column)))

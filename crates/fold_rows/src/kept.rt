@@ -1,0 +1,239 @@
+//! What a batch brings to a fold, once it is known which of its rows pass.
+ghost use Rattle.std.specs.Prelude.{◌≡◌, ◌<◌, ◌+◌, ◌^◌, ◌∷◌, ◌++◌, [], length, map, replicate, get_or, false, if◌then◌else◌, All, IfOk};
+ghost use Rattle.orc_values.specs.declared.value.Value.TheVariants as value;
+ghost use Rattle.batch_masks.specs.Kept.{kept};
+ghost use Rattle.batch_masks.specs.Rows.{field, row_at};
+ghost use Rattle.batch_masks.specs.Totals.{SumOfFew};
+ghost use Rattle.fragment_plan.specs.Bounds.{FoldInBounds};
+ghost use Rattle.fragment_plan.specs.declared.fragment.FoldKind.TheVariants as kind;
+ghost use Rattle.group_counts.specs.Order.{value_cmp};
+ghost use Rattle.group_counts.specs.Tally.{added, added_all};
+ghost use Rattle.fold_rows.specs.States.{picked, once, kept_rows, with_rows, sum_in};
+
+use crate::state::State;
+use batch_masks::with_kept;
+use fragment_outcome::{Row, Table};
+use fragment_plan::FoldKind;
+use group_counts::Counts;
+use orc_values::{Column, Value, count_present};
+use outside::NoMemory;
+use std::alloc::Global;
+
+/// The value of a row in a column.
+fn value_at(alloc: Global, columns: &[Column], place: u32, row: usize) -> Result<Value, NoMemory>
+    requires place { place < length columns.now }
+    requires row { All (λ column. row < length column) columns.now }
+    ensures { IfOk result (λ v. v ≡ field (row_at columns.now row) place) }
+{
+    columns[place as usize].get(row).to_value(alloc)
+}
+
+/// The listed columns of a row.
+fn row_of(alloc: Global, places: &[u32], columns: &[Column], row: usize) -> Result<Row, NoMemory>
+    requires places { All (λ place. place < length columns.now) places.now }
+    requires row { All (λ column. row < length column) columns.now }
+    ensures { IfOk result (λ picks. picks ≡ picked places.now (row_at columns.now row)) }
+{
+    let Ok(mut values) = Vec::with_capacity(alloc, places.len()) else {
+        return Err(NoMemory);
+    };
+    for place in places {
+        let value = value_at(alloc, columns, *place, row)?;
+        if values.push(value).is_err() {
+            return Err(NoMemory);
+        }
+    }
+    Ok(Row::new(values))
+}
+
+/// Rows with the listed columns more of a row, where its flag is set.
+fn push_row(
+    alloc: Global,
+    rows: Vec<Row>,
+    places: &[u32],
+    columns: &[Column],
+    mask: &[bool],
+    row: usize,
+) -> Result<Vec<Row>, NoMemory>
+    requires places { All (λ place. place < length columns.now) places.now }
+    requires rows { All (λ column. length column ≡ length mask.now) columns.now }
+    requires row { row < length mask.now }
+    ensures { IfOk result (λ new. new.items ≡ rows.items
+        ++ (if get_or mask.now row false then picked places.now (row_at columns.now row) ∷ [] else [])) }
+{
+    let mut rows = rows;
+    if !mask[row] {
+        return Ok(rows);
+    }
+    let picks = row_of(alloc, places, columns, row)?;
+    match rows.push(picks) {
+        Ok(()) => Ok(rows),
+        Err(_) => Err(NoMemory),
+    }
+}
+
+/// A table with the listed columns more of each row whose flag is set.
+fn push_kept(
+    alloc: Global,
+    table: Table,
+    places: &[u32],
+    columns: &[Column],
+    mask: &[bool],
+) -> Result<Table, NoMemory>
+    requires places { All (λ place. place < length columns.now) places.now }
+    requires rows { All (λ column. length column ≡ length mask.now) columns.now }
+    ensures { IfOk result (λ new. new ≡ table ++ map (picked places.now) (kept_rows mask.now columns.now)) }
+{
+    let mut rows = table.into_vec();
+    for row in 0..mask.len() {
+        rows = push_row(alloc, rows, places, columns, mask, row)?;
+    }
+    Ok(Table::new(rows))
+}
+
+/// Counts with the value more of a row, where its flag is set.
+fn count_row(
+    alloc: Global,
+    counts: Counts,
+    column: &Column,
+    mask: &[bool],
+    row: usize,
+) -> Result<Counts, NoMemory>
+    requires rows { length mask.now ≡ length column.now }
+    requires row { row < length mask.now }
+    ensures { IfOk result (λ new. new ≡
+        if get_or mask.now row false then added value_cmp counts (get_or column.now row value.Null) 1 else counts) }
+{
+    let mut counts = counts;
+    if !mask[row] {
+        return Ok(counts);
+    }
+    match counts.add(alloc, column.get(row), 1) {
+        Ok(()) => Ok(counts),
+        Err(_) => Err(NoMemory),
+    }
+}
+
+/// Counts with each value more of a column's rows whose flag is set.
+fn count_kept(
+    alloc: Global,
+    counts: Counts,
+    column: &Column,
+    mask: &[bool],
+) -> Result<Counts, NoMemory>
+    requires { length mask.now ≡ length column.now }
+    ensures { IfOk result (λ new. new ≡ added_all value_cmp counts (once (kept mask.now column.now))) }
+{
+    let mut now = counts;
+    for row in 0..mask.len() {
+        now = count_row(alloc, now, column, mask, row)?;
+    }
+    Ok(now)
+}
+
+/// What a fold that keeps rows has with those rows more whose flag is set.
+fn rows_with(
+    alloc: Global,
+    places: &[u32],
+    state: State,
+    columns: &[Column],
+    mask: &[bool],
+) -> Result<State, NoMemory>
+    requires places { All (λ place. place < length columns.now) places.now }
+    requires rows { All (λ column. length column ≡ length mask.now) columns.now }
+    ensures state { IfOk result (λ new. new ≡ with_rows (kind.Rows places.now) state (kept_rows mask.now columns.now)) }
+    ensures sum { IfOk result (λ new. sum_in new ≡ sum_in state) }
+{
+    match state {
+        State::Rows(table) => match push_kept(alloc, table, places, columns, mask) {
+            Ok(table) => Ok(State::Rows(table)),
+            Err(_) => Err(NoMemory),
+        },
+        State::Count(count) => Ok(State::Count(count)),
+        State::Sum(total) => Ok(State::Sum(total)),
+        State::Group(counts) => Ok(State::Group(counts)),
+    }
+}
+
+/// What a fold that counts has with so many rows more.
+pub fn count_with(state: State, more: u64) -> State
+    ensures state { result ≡ with_rows kind.Count state (replicate more []) }
+    ensures sum { sum_in result ≡ sum_in state }
+{
+    match state {
+        State::Count(count) => State::Count(count.saturating_add(more)),
+        State::Rows(table) => State::Rows(table),
+        State::Sum(total) => State::Sum(total),
+        State::Group(counts) => State::Group(counts),
+    }
+}
+
+/// What a fold that sums has with those rows more whose flag is set.
+fn sum_with(place: u32, state: State, given: u64, columns: &[Column], mask: &mut [bool]) -> State
+    requires place { place < length columns.now }
+    requires rows { All (λ column. length column ≡ length mask.old) columns.now }
+    requires few { given + length mask.old < 2 ^ 63 }
+    requires bound { SumOfFew given (sum_in state) }
+    ensures state { result ≡ with_rows (kind.Sum place) state (kept_rows mask.old columns.now) }
+    ensures bound { SumOfFew (given + length mask.old) (sum_in result) }
+{
+    match state {
+        State::Sum(total) => State::Sum(with_kept(total, given, mask, &columns[place as usize])),
+        State::Rows(table) => State::Rows(table),
+        State::Count(count) => State::Count(count),
+        State::Group(counts) => State::Group(counts),
+    }
+}
+
+/// What a fold that groups has with those rows more whose flag is set.
+fn group_with(
+    alloc: Global,
+    place: u32,
+    state: State,
+    columns: &[Column],
+    mask: &[bool],
+) -> Result<State, NoMemory>
+    requires place { place < length columns.now }
+    requires rows { All (λ column. length column ≡ length mask.now) columns.now }
+    ensures state { IfOk result (λ new. new ≡ with_rows (kind.Group place) state (kept_rows mask.now columns.now)) }
+    ensures sum { IfOk result (λ new. sum_in new ≡ sum_in state) }
+{
+    match state {
+        State::Group(counts) => {
+            match count_kept(alloc, counts, &columns[place as usize], mask) {
+                Ok(counts) => Ok(State::Group(counts)),
+                Err(_) => Err(NoMemory),
+            }
+        }
+        State::Rows(table) => Ok(State::Rows(table)),
+        State::Count(count) => Ok(State::Count(count)),
+        State::Sum(total) => Ok(State::Sum(total)),
+    }
+}
+
+/// What a fold has with those rows more of a batch whose flag is set.
+///
+/// Refuses only for want of memory, and then the state is gone.
+/// The mask has a flag for each row, and is used up. `given` is how many rows the fold was given before, at least.
+pub fn with_kept_rows(
+    alloc: Global,
+    fold: &FoldKind,
+    state: State,
+    given: u64,
+    columns: &[Column],
+    mask: &mut [bool],
+) -> Result<State, NoMemory>
+    requires places { FoldInBounds (length columns.now) fold.now }
+    requires rows { All (λ column. length column ≡ length mask.old) columns.now }
+    requires few { given + length mask.old < 2 ^ 63 }
+    requires bound { SumOfFew given (sum_in state) }
+    ensures state { IfOk result (λ new. new ≡ with_rows fold.now state (kept_rows mask.old columns.now)) }
+    ensures bound { IfOk result (λ new. SumOfFew (given + length mask.old) (sum_in new)) }
+{
+    match fold {
+        FoldKind::Rows(places) => rows_with(alloc, places.as_slice(), state, columns, mask),
+        FoldKind::Count => Ok(count_with(state, count_present(mask) as u64)),
+        FoldKind::Sum(place) => Ok(sum_with(*place, state, given, columns, mask)),
+        FoldKind::Group(place) => group_with(alloc, *place, state, columns, mask),
+    }
+}
