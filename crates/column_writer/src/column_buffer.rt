@@ -77,6 +77,21 @@ impl ColumnBuffer {
         }
     }
 
+    /// How its rows are to be spelled.
+    pub fn spelling(&self) -> Spelling
+        ensures { result ≡ self.now.spelling }
+    {
+        self.kept.spelling()
+    }
+
+    /// Lets all rows go.
+    pub fn clear(&mut self, alloc: Global)
+        ensures { self.new ≡ record { spelling = self.old.spelling; rows = [] } }
+    {
+        self.flags.clear();
+        self.kept.clear(alloc);
+    }
+
     /// The streams of these rows: by any plan of this spelling they have just these rows.
     ///
     /// A dictionary has its entries in the order of their first use. Answers `NoMemory` where memory was refused.

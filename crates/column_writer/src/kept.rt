@@ -57,6 +57,31 @@ impl Kept {
         }
     }
 
+    /// How they are to be spelled.
+    pub(crate) fn spelling(&self) -> Spelling
+        ensures { result ≡ spelling_in self.now }
+    {
+        match self {
+            Kept::Bits(_) => Spelling::Bits,
+            Kept::Integers(version, _) => Spelling::Integers(*version),
+            Kept::Strings(version, _) => Spelling::Texts(*version),
+            Kept::Dictionary(version, _) => Spelling::Dictionary(*version),
+        }
+    }
+
+    /// Lets all values go.
+    pub(crate) fn clear(&mut self, alloc: Global)
+        ensures spelling { spelling_in self.new ≡ spelling_in self.old }
+        ensures values { values_in self.new ≡ [] }
+    {
+        match self {
+            Kept::Bits(bits) => bits.clear(),
+            Kept::Integers(_, numbers) => numbers.clear(),
+            Kept::Strings(_, texts) => *texts = Texts::empty(alloc),
+            Kept::Dictionary(_, texts) => *texts = Texts::empty(alloc),
+        }
+    }
+
     /// Lets the last value go, if there is one.
     pub(crate) fn pop(&mut self, alloc: Global)
         requires { 0 < length (values_in self.old) }
