@@ -1,3 +1,1 @@
-pub mod Lists
 pub mod Numbers
-pub mod Steps

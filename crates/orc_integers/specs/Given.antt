@@ -8,6 +8,11 @@ abbrev pub given_then_held : {V E : Type 0} → List V → List V → Result ℕ
 given_then_held out held (Ok count) = Ok (take count out ++ held)
 given_then_held out held (Err e) = Err e
 
+-- the values that a call gave, where it answered how many
+abbrev pub given_of : {V E : Type 0} → List V → Result ℕ E → Result (List V) E
+given_of out (Ok count) = Ok (take count out)
+given_of out (Err e) = Err e
+
 -- At least one value was given, none past the room, and none is held unless the room is full.
 pub record GivesSome {V : Type 0} (room count : ℕ) (held : List V) : Type 0 where
   pub some : 0 < count

@@ -42,6 +42,14 @@ impl Held {
         }
     }
 
+    /// Lets go of all values.
+    pub fn clear(&mut self)
+        ensures { self.new ≡ [] }
+    {
+        self.from = 0;
+        self.to = 0;
+    }
+
     /// Gives as many values as there is room for, and answers how many. Entries behind them stay as they were.
     pub fn give(&mut self, out: &mut [i64]) -> usize
         ensures room { result ≤ length out.old }

@@ -5,7 +5,7 @@ use Rattle.std.proofs.lemmas.List.{length-take-le, take-append-drop, take-append
 use Rattle.outside.specs.declared.run_fault.RunFault.{RunFault}
 use Rattle.outside.specs.Reading.{go_on, value}
 use Rattle.outside.specs.Runs.{Joined, none, one, Fewest, no_run, runs, Spells, Breaks, IsReaderOf}
-use Rattle.outside.proofs.VarintRuns.{read_is, went_on}
+use Rattle.outside.specs.ReadingLaws.{read_is, went_on}
 use Rattle.orc_rle.specs.BitRun.{byte_bits, bits_of, BitRun, bits, bit_run, bytes_for, BitsAreSpelled, BitsBreak}
 use Rattle.orc_rle.specs.ByteRun.{ByteRun, byte_run, OnlyEnds}
 use Rattle.orc_rle.proofs.ByteRunReader.{byte_run_reads, byte_run_ends}

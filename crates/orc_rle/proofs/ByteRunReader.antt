@@ -7,7 +7,7 @@ use Rattle.outside.specs.declared.run_fault.RunFault.{RunFault}
 use Rattle.outside.specs.declared.run_fault.RunFault.TheVariants.{StreamEnds}
 use Rattle.outside.specs.Reading.{mapped, byte, exactly}
 use Rattle.outside.specs.Runs.{IsReaderOf}
-use Rattle.outside.proofs.VarintRuns.{read_is}
+use Rattle.outside.specs.ReadingLaws.{read_is}
 use Rattle.orc_rle.specs.ByteRun.{ByteRun, repeated, literals, bytes_after, byte_run}
 
 abbrev read_of : {X : Type 0} → X × List ℕ → Result (X × List ℕ) RunFault

@@ -6,10 +6,10 @@ use Rattle.outside.specs.Feed.{Taken}
 use Rattle.outside.specs.Filling.{BreaksWith, Fills}
 use Rattle.outside.specs.Reading.{Reader, go_on, bind, value, mapped, IsReadFault, Faults, Reads, byte}
 use Rattle.outside.specs.Runs.{IsReaderOf}
-use Rattle.outside.proofs.Cause.{Cause-then}
-use Rattle.outside.proofs.Filling.{Fills-give, Fills-run}
-use Rattle.outside.proofs.VarintRuns.{read_is}
-use Rattle.outside.proofs.Reading.{AllOf-append, Reads-value, Reads-then, Reads-same, Reads-map, Reads-fault}
+use Rattle.outside.specs.CauseLaws.{Cause-then}
+use Rattle.outside.specs.FillingLaws.{Fills-give, Fills-run}
+use Rattle.outside.specs.ReadingLaws.{read_is}
+use Rattle.outside.specs.ReadingLaws.{AllOf-append, Reads-value, Reads-then, Reads-same, Reads-map, Reads-fault}
 use Rattle.orc_rle.specs.EmptyStream.{unless_empty, found, NeedsByte, FillsUnlessEmpty}
 
 abbrev read_of : {X : Type 0} → X × List ℕ → Result (X × List ℕ) RunFault

@@ -8,7 +8,8 @@ use Rattle.outside.specs.declared.run_fault.RunFault.{RunFault}
 use Rattle.outside.specs.Reading.{value}
 use Rattle.outside.specs.Runs.{IsReaderOf}
 use Rattle.outside.specs.Varint.{varint, varints}
-use Rattle.outside.proofs.VarintRuns.{read_is, went_on, varint-whole, varint-only, varints-whole, varints-only}
+use Rattle.outside.specs.ReadingLaws.{read_is, went_on}
+use Rattle.outside.specs.VarintLaws.{varint-whole, varint-only, varints-whole, varints-only}
 use Rattle.orc_integers.specs.Integers.{integer, ramp}
 use Rattle.orc_rle.specs.IntRun1.{IntRun1, repeated, literals, repeated_run, literal_run, run_after, int_run1}
 

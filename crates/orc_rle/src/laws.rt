@@ -5,6 +5,13 @@ ghost use Rattle.orc_rle.specs.BitRun.{BitRun, bit_run, BitsAreSpelled, BitsBrea
 ghost use Rattle.orc_rle.specs.ByteRun.{ByteRun, byte_run, OnlyEnds};
 ghost use Rattle.orc_rle.specs.IntRun1.{IntRun1, int_run1};
 
+/// The reader of each format gives the one run that is the front of the bytes, where there is one.
+pub fn readers_read_runs()
+    ensures integers { (signed : Bool) → IsReaderOf (IntRun1 signed) (int_run1 signed) }
+    ensures bytes { IsReaderOf ByteRun byte_run }
+    ensures bits { IsReaderOf BitRun bit_run }
+{}
+
 /// No spelling of a run begins the spelling of another run of its kind.
 pub fn runs_begin_no_other()
     ensures integers { (signed : Bool) → BeginsNoOther (IntRun1 signed) }

@@ -11,6 +11,7 @@ mod int_runs1;
 pub mod laws;
 mod open_byte;
 mod run1;
+mod run1_in;
 mod signed_byte;
 
 pub use bits::Bits;

@@ -53,7 +53,7 @@ fn hold_body<F: Feed>(
 }
 
 /// How many values a run has, by its control.
-fn run_len(control: u8) -> usize
+pub fn run_len(control: u8) -> usize
     ensures value { result ≡ run_len control }
     ensures some { 0 < result }
     ensures most { result ≤ 130 }

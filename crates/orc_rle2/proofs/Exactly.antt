@@ -4,7 +4,7 @@ use Rattle.std.proofs.lemmas.Bool.{cases_lt, le-leb, lt-leb}
 use Rattle.std.proofs.lemmas.List.{take-append-drop, take_at, drop_at, length-take-le}
 use Rattle.outside.specs.declared.run_fault.RunFault.{RunFault}
 use Rattle.outside.specs.Reading.{exactly}
-use Rattle.outside.proofs.VarintRuns.{read_is}
+use Rattle.outside.specs.ReadingLaws.{read_is}
 
 abbrev read_of : {X : Type 0} → X × List ℕ → Result (X × List ℕ) RunFault
 read_of p = Ok p

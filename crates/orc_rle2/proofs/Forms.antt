@@ -6,7 +6,7 @@ use Rattle.outside.specs.declared.run_fault.RunFault.TheVariants.{StreamEnds, Pa
 use Rattle.outside.specs.Feed.{Taken}
 use Rattle.outside.specs.Reading.{Reader, Reads, go_on, bind, value, mapped, byte, exactly}
 use Rattle.outside.specs.Varint.{varint, varints}
-use Rattle.outside.proofs.Cause.{Cause-none}
+use Rattle.outside.specs.CauseLaws.{Cause-none}
 use Rattle.orc_integers.specs.Integers.{ramp}
 use Rattle.orc_rle2.specs.IntRun2.{delta_values, magnitudes, packed, varied, or_out_of_run, above_base}
 use Rattle.orc_rle2.specs.Widths.{width_of}

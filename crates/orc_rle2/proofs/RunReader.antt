@@ -6,7 +6,8 @@ use Rattle.outside.specs.declared.run_fault.RunFault.TheVariants.{PatchTooWide}
 use Rattle.outside.specs.Reading.{bind, value, mapped, exactly}
 use Rattle.outside.specs.Runs.{IsReaderOf}
 use Rattle.outside.specs.Varint.{IsVarint, varint}
-use Rattle.outside.proofs.VarintRuns.{read_is, went_on, varint-whole, varint-only}
+use Rattle.outside.specs.ReadingLaws.{read_is, went_on}
+use Rattle.outside.specs.VarintLaws.{varint-whole, varint-only}
 use Rattle.orc_rle2.proofs.Exactly.{exactly-whole, exactly-only}
 use Rattle.orc_rle2.proofs.Lengths.{repeat-some, direct-some, delta-some, patched-some}
 use Rattle.orc_rle2.specs.declared.patches.Shape.{Shape}

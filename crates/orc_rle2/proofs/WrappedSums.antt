@@ -6,7 +6,7 @@ use Rattle.std.proofs.lemmas.Bool.{le-ltb, cases_eq, eq-eqb, ne_eqb}
 use Rattle.std.proofs.lemmas.List.{take_more_set}
 use Rattle.orc_integers.specs.Integers.{wrapped_sum, ramp}
 use Rattle.orc_rle2.specs.Integers.{sums, with_sign}
-use Rattle.orc_integers.proofs.Steps.{ramp_first}
+use Rattle.orc_integers.specs.RampLaws.{ramp_first}
 use Rattle.orc_rle2.specs.IntRun2.{varied}
 use Rattle.orc_rle2.proofs.InPlace.{map_take_more}
 

@@ -3,6 +3,11 @@ ghost use Rattle.std.specs.Prelude.{Bool};
 ghost use Rattle.outside.specs.Runs.{BeginsNoOther, IsDecided, IsReaderOf};
 ghost use Rattle.orc_rle2.specs.IntRun2.{IntRun2, int_run2};
 
+/// The reader gives the one run that is the front of the bytes, where there is one.
+pub fn readers_read_runs()
+    ensures { (signed : Bool) → IsReaderOf (IntRun2 signed) (int_run2 signed) }
+{}
+
 /// No spelling of a run begins the spelling of another run.
 pub fn runs_begin_no_other()
     ensures { (signed : Bool) → BeginsNoOther (IntRun2 signed) }

@@ -1,7 +1,7 @@
 use Rattle.std.proofs.Common.{◌∙◌, arith, FitsSigned, refl}
 use Rattle.std.specs.Int.{cast_signed, w64}
 use Rattle.std.proofs.lemmas.Int.{to_z-of_z, ints}
-use Rattle.orc_integers.proofs.Steps.{ramp_first, ramp_next, ramp_more}
+use Rattle.orc_integers.specs.RampLaws.{ramp_first, ramp_next, ramp_more}
 use Rattle.orc_integers.proofs.ramp.write_ramp.Goals as goal
 
 pub loop-value-init : goal.loop-value-init

@@ -2,7 +2,7 @@ use Rattle.std.proofs.Common.{◌≡◌, ◌∙◌, ℕ, ◌+◌, ◌<◌, lengt
 use Rattle.std.proofs.Math.Seq.{take-append-add}
 use Rattle.std.proofs.lemmas.List.{length-take-le}
 use Rattle.std.proofs.lemmas.Result.{err_from_is_err_and}
-use Rattle.outside.proofs.Filling.{Fills-give, Fills-run, Fills-fault}
+use Rattle.outside.specs.FillingLaws.{Fills-give, Fills-run, Fills-fault}
 use Rattle.orc_rle.specs.BitRun.{BitRun, bit_run}
 use Rattle.orc_rle.proofs.Lists.{some_given}
 use Rattle.orc_rle.proofs.BitRuns.{bit_run_reads}

@@ -1,6 +1,6 @@
 use Rattle.std.proofs.Common.{◌≡◌, ◌∙◌, ◌<◌, Bool, true, List, [], ◌++◌, length, Ok, refl, sym, ap, arith}
 use Rattle.std.proofs.lemmas.Result.{err_from_is_err_and}
-use Rattle.outside.proofs.Filling.{Fills-give, Fills-fault}
+use Rattle.outside.specs.FillingLaws.{Fills-give, Fills-fault}
 use Rattle.orc_rle.specs.BitRun.{BitRun, bit_run}
 use Rattle.orc_rle.proofs.BitRuns.{bit_run_reads}
 use Rattle.orc_rle.proofs.EmptyStream.{Reads-broke, Fills-found, Fills-then, Fills-then_fault, Fills-some, Fills-broke, found_some, found_fault}

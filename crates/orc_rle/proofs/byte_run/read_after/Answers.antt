@@ -1,7 +1,7 @@
 use Rattle.std.proofs.Common.{◌≡◌, ◌+◌, ◌-◌, ◌<◌, ◌≤◌, replicate, Ok, Err, arith, rules}
 use Rattle.std.proofs.lemmas.Result.{err_from_is_err_and}
 use Rattle.outside.specs.Reading.{mapped, byte, exactly, value}
-use Rattle.outside.proofs.Reading.{Reads-same, Reads-map, Reads-fault}
+use Rattle.outside.specs.ReadingLaws.{Reads-same, Reads-map, Reads-fault}
 use Rattle.orc_rle.specs.ByteRun.{bytes_after}
 use Rattle.orc_rle.proofs.ByteRunReader.{bytes_after-repeated, bytes_after-literals}
 use Rattle.orc_rle.proofs.byte_run.read_after.Goals as goal

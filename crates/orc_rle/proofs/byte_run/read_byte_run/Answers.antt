@@ -1,5 +1,5 @@
 use Rattle.outside.specs.Reading.{byte}
-use Rattle.outside.proofs.Reading.{Reads-then}
+use Rattle.outside.specs.ReadingLaws.{Reads-then}
 use Rattle.orc_rle.specs.ByteRun.{bytes_after}
 use Rattle.orc_rle.proofs.byte_run.read_byte_run.Goals as goal
 

@@ -1,4 +1,4 @@
-use Rattle.outside.proofs.Runs.{decided}
+use Rattle.outside.specs.RunLaws.{decided}
 use Rattle.orc_rle.specs.BitRun.{BitRun, bit_run}
 use Rattle.orc_rle.specs.ByteRun.{ByteRun, byte_run}
 use Rattle.orc_rle.specs.IntRun1.{IntRun1, int_run1}

@@ -1,4 +1,4 @@
-use Rattle.outside.proofs.Runs.{begins_no_other}
+use Rattle.outside.specs.RunLaws.{begins_no_other}
 use Rattle.orc_rle.specs.ByteRun.{ByteRun, byte_run}
 use Rattle.orc_rle.specs.IntRun1.{IntRun1, int_run1}
 use Rattle.orc_rle.proofs.ByteRunReader.{byte_run_reads}

@@ -2,7 +2,7 @@ use Rattle.std.proofs.Common.{◌≡◌, length, Ok, Err, arith, append-nil}
 use Rattle.std.proofs.lemmas.List.{take_at}
 use Rattle.std.proofs.lemmas.Result.{err_from_is_err_and}
 use Rattle.outside.specs.Reading.{byte}
-use Rattle.outside.proofs.Reading.{Reads-then}
+use Rattle.outside.specs.ReadingLaws.{Reads-then}
 use Rattle.orc_rle.specs.IntRun1.{run_after}
 use Rattle.orc_rle.proofs.run1.give_run.Goals as goal
 

@@ -3,7 +3,7 @@ use Rattle.std.specs.Int.{w8, cast_signed}
 use Rattle.std.proofs.lemmas.Result.{err_from_is_err_and}
 use Rattle.outside.specs.Reading.{byte, mapped, value}
 use Rattle.outside.specs.Varint.{varint}
-use Rattle.outside.proofs.Reading.{Reads-then, Reads-map, Reads-fault}
+use Rattle.outside.specs.ReadingLaws.{Reads-then, Reads-map, Reads-fault}
 use Rattle.orc_integers.specs.Integers.{integer, ramp}
 use Rattle.orc_rle.proofs.run1.read_repeated.Goals as goal
 

@@ -1,7 +1,7 @@
 use Rattle.std.proofs.Common.{◌<◌, ◌≤◌, Ok, Err, arith, rules}
 use Rattle.std.proofs.lemmas.Result.{err_from_is_err_and}
 use Rattle.outside.specs.Reading.{byte, mapped, value}
-use Rattle.outside.proofs.Reading.{Reads-then, Reads-same, Reads-map, Reads-fault}
+use Rattle.outside.specs.ReadingLaws.{Reads-then, Reads-same, Reads-map, Reads-fault}
 use Rattle.orc_rle2.specs.Header.{header_after, long_header}
 use Rattle.orc_rle2.specs.IntRun2.{code_of, run_len}
 use Rattle.orc_rle2.proofs.Headers.{header_after-long}

@@ -2,7 +2,7 @@ use Rattle.std.proofs.Common.{◌≡◌, ◌∙◌, ℕ, ◌+◌, ◌<◌, lengt
 use Rattle.std.proofs.Math.Seq.{take-append-add}
 use Rattle.std.proofs.lemmas.List.{length-take-le}
 use Rattle.std.proofs.lemmas.Result.{err_from_is_err_and}
-use Rattle.outside.proofs.Filling.{Fills-give, Fills-run, Fills-fault}
+use Rattle.outside.specs.FillingLaws.{Fills-give, Fills-run, Fills-fault}
 use Rattle.orc_rle2.specs.IntRun2.{IntRun2, int_run2}
 use Rattle.orc_rle2.proofs.RunReader.{int_run2_reads}
 use Rattle.orc_rle2.proofs.int_runs2.fill_on.Goals as goal

@@ -1,6 +1,6 @@
 use Rattle.std.proofs.Common.{◌≡◌, ◌∙◌, ℕ, ◌*◌, ◌≤◌, Bool, List, length, map, sym, ap, subst, arith}
 use Rattle.outside.specs.Reading.{exactly}
-use Rattle.outside.proofs.Reading.{Reads-map}
+use Rattle.outside.specs.ReadingLaws.{Reads-map}
 use Rattle.orc_integers.specs.Integers.{integer}
 use Rattle.orc_rle2.specs.Integers.{bits_in}
 use Rattle.orc_rle2.specs.IntRun2.{packed}

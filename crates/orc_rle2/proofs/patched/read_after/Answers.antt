@@ -1,6 +1,6 @@
 use Rattle.std.proofs.Common.{◌+◌, ◌<◌, ◌≤◌, length, arith}
 use Rattle.std.specs.Int.{cast_signed, w64}
-use Rattle.outside.proofs.Reading.{Reads-then, Reads-same}
+use Rattle.outside.specs.ReadingLaws.{Reads-then, Reads-same}
 use Rattle.orc_rle2.specs.IntRun2.{base_bytes, patched_values, patched_rest, patched_after}
 use Rattle.orc_rle2.proofs.RunReader.{patched_after-narrow}
 use Rattle.orc_rle2.proofs.patched.read_after.Goals as goal

@@ -1,6 +1,6 @@
 use Rattle.std.proofs.Common.{ℕ, List, length, get_or}
 use Rattle.outside.specs.Reading.{bind, exactly}
-use Rattle.outside.proofs.Reading.{Reads-then, Reads-same}
+use Rattle.outside.specs.ReadingLaws.{Reads-then, Reads-same}
 use Rattle.orc_rle2.specs.IntRun2.{patched_body, patched_after, shape_of, base_len, patch_count}
 use Rattle.orc_rle2.proofs.Forms.{two_bytes}
 use Rattle.orc_rle2.proofs.patched.read_patched.Goals as goal

@@ -2,7 +2,7 @@ use Rattle.std.proofs.Common.{length, refl, Ok, Err}
 use Rattle.std.specs.Int.{cast_signed, w64}
 use Rattle.std.proofs.lemmas.Result.{err_from_is_err_and}
 use Rattle.outside.specs.Reading.{bind, value}
-use Rattle.outside.proofs.Reading.{Reads-then, Reads-same, Reads-fault, Reads-value}
+use Rattle.outside.specs.ReadingLaws.{Reads-then, Reads-same, Reads-fault, Reads-value}
 use Rattle.orc_rle2.specs.Integers.{bits_in}
 use Rattle.orc_rle2.specs.Patches.{patched}
 use Rattle.orc_rle2.specs.IntRun2.{packed, entry_width, or_out_of_run, above_base}

@@ -2,7 +2,7 @@ use Rattle.std.proofs.Common.{◌≡◌, length, Ok, Err, arith, append-nil}
 use Rattle.std.proofs.lemmas.List.{take_at}
 use Rattle.std.proofs.lemmas.Result.{err_from_is_err_and}
 use Rattle.outside.specs.Reading.{bind}
-use Rattle.outside.proofs.Reading.{Reads-then, Reads-same, Reads-fault}
+use Rattle.outside.specs.ReadingLaws.{Reads-then, Reads-same, Reads-fault}
 use Rattle.orc_rle2.specs.Header.{run_header, run_body}
 use Rattle.orc_rle2.specs.IntRun2.{int_run2}
 use Rattle.orc_rle2.proofs.Headers.{by_header}

@@ -2,7 +2,7 @@ use Rattle.std.proofs.Common.{◌≡◌, ℕ, ◌-◌, List, length, get_or, Ok,
 use Rattle.std.proofs.lemmas.Result.{err_from_is_err_and}
 use Rattle.outside.specs.Reading.{bind, mapped, value}
 use Rattle.outside.specs.Varint.{varints}
-use Rattle.outside.proofs.Reading.{Reads-then, Reads-same, Reads-fault, Reads-value}
+use Rattle.outside.specs.ReadingLaws.{Reads-then, Reads-same, Reads-fault, Reads-value}
 use Rattle.orc_integers.specs.Integers.{integer, zigzag, ramp}
 use Rattle.orc_rle2.specs.IntRun2.{delta_body, delta_values, magnitudes, packed, varied}
 use Rattle.orc_rle2.specs.Widths.{width_of}

@@ -3,7 +3,7 @@ use Rattle.std.specs.Int.{cast_signed, w64}
 use Rattle.std.proofs.lemmas.Int.{wrapping_add-bits}
 use Rattle.std.proofs.lemmas.Result.{err_from_is_err_and}
 use Rattle.outside.specs.Reading.{value}
-use Rattle.outside.proofs.Reading.{Reads-map, Reads-fault}
+use Rattle.outside.specs.ReadingLaws.{Reads-map, Reads-fault}
 use Rattle.orc_integers.specs.Integers.{ramp, wrapped_sum}
 use Rattle.orc_rle2.specs.Integers.{bits_in}
 use Rattle.orc_rle2.specs.IntRun2.{packed, varied}

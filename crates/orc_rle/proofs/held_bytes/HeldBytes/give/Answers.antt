@@ -1,6 +1,6 @@
 use Rattle.std.proofs.Common.{◌≡◌, ◌+◌, ◌-◌, ◌≤◌, length, take, drop, arith, sym}
 use Rattle.std.proofs.lemmas.List.{take-append-drop, take_at, length-take, length-drop}
-use Rattle.orc_integers.proofs.Lists.{left_after}
+use Rattle.orc_integers.specs.HeldLaws.{left_after}
 use Rattle.orc_rle.proofs.held_bytes.HeldBytes.give.Goals as goal
 
 pub returns-clause-parts : goal.returns-clause-parts

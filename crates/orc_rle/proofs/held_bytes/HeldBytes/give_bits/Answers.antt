@@ -2,7 +2,7 @@ use Rattle.std.proofs.Common.{◌≡◌, ◌+◌, ◌-◌, ◌*◌, ◌≤◌, l
 use Rattle.std.proofs.lemmas.List.{take-append-drop, take_at, length-take, length-drop}
 use Rattle.orc_rle.specs.BitRun.{bits_of}
 use Rattle.orc_rle.proofs.BitRuns.{bits_of-append}
-use Rattle.orc_integers.proofs.Lists.{left_after}
+use Rattle.orc_integers.specs.HeldLaws.{left_after}
 use Rattle.orc_rle.proofs.held_bytes.HeldBytes.give_bits.Goals as goal
 
 pub returns-clause-parts : goal.returns-clause-parts
