@@ -87,14 +87,6 @@ open-goes groups count groups' count' byte goes at = record {
   reads = λ more. goes (at.front ++ more) ∙ at.reads more;
 }
 
--- the same of an answer
-pub open-goes-if : (groups count groups' count' byte : ℕ) (bytes : List ℕ)
-    → ((more : List ℕ) → open_varint groups count (byte ∷ more) ≡ open_varint groups' count' more)
-    → (answer : Option (ℕ × Bor (List ℕ))) → IfSome answer (λ p. ReadsIn (open_varint groups' count') bytes p.0 p.1.now)
-    → IfSome answer (λ p. ReadsIn (open_varint groups count) (byte ∷ bytes) p.0 p.1.now)
-open-goes-if groups count groups' count' byte bytes goes None at = tt
-open-goes-if groups count groups' count' byte bytes goes (Some p) at = open-goes groups count groups' count' byte goes at
-
 pub open-ends : (groups count byte : ℕ) {number : ℕ} (left : List ℕ) → ((more : List ℕ) → open_varint groups count (byte ∷ more) ≡ Ok (number, more))
     → ReadsIn (open_varint groups count) (byte ∷ left) number left
 open-ends groups count byte left ends = record { front = byte ∷ []; parts = refl; reads = ends }
@@ -131,6 +123,13 @@ integers-joined signed {left = left} first at = record {
   are = are-joined first.are at.are;
   values_are = rw (first.values_are, at.values_are) (sym (map-append (integer signed) first.numbers at.numbers));
 }
+
+-- the same of an answer
+pub integers-joined-if : (signed : Bool) (others : List ℤ) {bytes between : List ℕ} {values : List ℤ} → IntegersIn signed bytes values between
+    → (answer : Option (Bor (List ℕ))) → IfSome answer (λ left. IntegersIn signed between others left.now)
+    → IfSome answer (λ left. IntegersIn signed bytes (values ++ others) left.now)
+integers-joined-if signed others first None at = tt
+integers-joined-if signed others first (Some left) at = integers-joined signed first at
 
 -- numbers of one byte each
 pub integers-short : (signed : Bool) (bytes left : List ℕ) → AllByRecursion (λ byte. byte < 128) bytes

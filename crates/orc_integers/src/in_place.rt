@@ -11,6 +11,7 @@ use outside::Begun;
 
 /// The number of the varint that is the front of these bytes, and the bytes behind it; `None` where no whole
 /// varint is.
+#[inline(always)]
 pub fn varint_in<'a>(bytes: &'a [u8]) -> Option<(u64, &'a [u8])>
     ensures { IfSome result (λ p. NumberIn bytes.now p.0 p.1.now) }
 {
@@ -24,20 +25,15 @@ pub fn varint_in<'a>(bytes: &'a [u8]) -> Option<(u64, &'a [u8])>
 fn long_varint_in<'a>(bytes: &'a [u8]) -> Option<(u64, &'a [u8])>
     ensures { IfSome result (λ p. NumberIn bytes.now p.0 p.1.now) }
 {
-    open_varint_in(bytes, Begun::new())
-}
-
-/// The number of a varint of which these bytes are what follows, and the bytes behind it.
-fn open_varint_in<'a>(bytes: &'a [u8], begun: Begun) -> Option<(u64, &'a [u8])>
-    ensures { IfSome result (λ p. ReadsIn (open_varint begun.groups begun.count) bytes.now p.0 p.1.now) }
-{
-    let (byte, rest) = bytes.split_first()?;
-    let mut begun = begun;
-    match begun.push(*byte) {
-        Ok(Some(number)) => Some((number, rest)),
-        Ok(None) => open_varint_in(rest, begun),
-        Err(_) => None,
+    let mut begun = Begun::new();
+    for (i, byte) in bytes.iter().enumerate() {
+        match begun.push(*byte) {
+            Ok(Some(number)) => return Some((number, &bytes[i + 1..])),
+            Ok(None) => {}
+            Err(_) => return None,
+        }
     }
+    None
 }
 
 /// Reads the varints that are the front of these bytes into `into`, as many as it has room for, as the values that
@@ -46,31 +42,36 @@ fn open_varint_in<'a>(bytes: &'a [u8], begun: Begun) -> Option<(u64, &'a [u8])>
 pub fn integers_in<'a>(bytes: &'a [u8], signed: bool, into: &mut [i64]) -> Option<&'a [u8]>
     ensures { IfSome result (λ left. IntegersIn signed bytes.now into.new left.now) }
 {
-    match into.split_first_chunk_mut::<8>() {
-        Some((group, others)) => {
-            let left = eight_in(bytes, signed, group)?;
-            integers_in(left, signed, others)
-        }
-        None => few_in(bytes, signed, into),
+    let mut left = bytes;
+    let mut done = 0;
+    while done + 8 <= into.len() {
+        let (_, open) = into.split_at_mut(done);
+        let (group, _) = open.split_at_mut(8);
+        left = eight_in(left, signed, group)?;
+        done += 8;
     }
+    let (_, open) = into.split_at_mut(done);
+    few_in(left, signed, open)
 }
 
 /// Does what `integers_in` does, one number at a time.
+#[inline(always)]
 fn few_in<'a>(bytes: &'a [u8], signed: bool, into: &mut [i64]) -> Option<&'a [u8]>
     ensures { IfSome result (λ left. IntegersIn signed bytes.now into.new left.now) }
 {
-    match into.split_first_mut() {
-        Some((value, others)) => {
-            let (number, left) = varint_in(bytes)?;
-            *value = bits_of(signed, number).cast_signed();
-            few_in(left, signed, others)
-        }
-        None => Some(bytes),
+    let mut left = bytes;
+    for value in into.iter_mut() {
+        let (number, behind) = varint_in(left)?;
+        *value = bits_of(signed, number).cast_signed();
+        left = behind;
     }
+    Some(left)
 }
 
 /// Does what `integers_in` does for eight numbers, at once where each is one byte.
-fn eight_in<'a>(bytes: &'a [u8], signed: bool, into: &mut [i64; 8]) -> Option<&'a [u8]>
+#[inline(always)]
+fn eight_in<'a>(bytes: &'a [u8], signed: bool, into: &mut [i64]) -> Option<&'a [u8]>
+    requires { length into.old ≡ 8 }
     ensures { IfSome result (λ left. IntegersIn signed bytes.now into.new left.now) }
 {
     match bytes.split_first_chunk::<8>() {
@@ -83,6 +84,7 @@ fn eight_in<'a>(bytes: &'a [u8], signed: bool, into: &mut [i64; 8]) -> Option<&'
 }
 
 /// Whether each of eight bytes is a varint.
+#[inline(always)]
 fn are_short(eight: &[u8; 8]) -> bool
     ensures { result ≡ true → AllByRecursion (λ byte. byte < 128) eight.now }
 {
