@@ -1,10 +1,10 @@
 -- Every column has values, or a condition refuses it.
-use Rattle.std.proofs.Common.{◌≡◌, ℕ, suc, ◌+◌, ◌<◌, ◌≤◌, ◌⊎◌, Bool, true, false, List, [], ◌∷◌, length, map, Option, Some, None, ℤ, pos, negsuc, refl, sym, ◌∙◌, ap, subst, arith, inl, inr, All, Contains, sum}
+use Rattle.std.proofs.Common.{◌≡◌, ℕ, suc, ◌<◌, ◌≤◌, ◌⊎◌, Bool, true, false, List, [], ◌∷◌, length, map, Option, Some, None, ℤ, pos, negsuc, refl, sym, ◌∙◌, ap, subst, arith, inl, inr, Contains, sum}
 use Rattle.std.specs.Prelude.{replicate}
 use Rattle.std.specs.Int.{w64, cast_unsigned}
 use Rattle.std.proofs.lemmas.List.{length-map, length-replicate}
 use Rattle.outside.specs.declared.run_fault.RunFault.{RunFault}
-use Rattle.outside.specs.Runs.{IsDecided, SpellsOrBreaks, Breaks}
+use Rattle.outside.specs.Runs.{IsDecided, SpellsOrBreaks}
 use Rattle.orc_rle.specs.BitRun.{BitRun, bit_run}
 use Rattle.orc_rle.specs.IntRun1.{IntRun1, int_run1}
 use Rattle.orc_rle2.specs.IntRun2.{IntRun2, int_run2}
@@ -15,8 +15,7 @@ use Rattle.orc_values.specs.TextsLaws.{length-slices}
 use Rattle.orc_values.specs.Woven.{woven, present_count}
 use Rattle.orc_values.specs.WovenLaws.{length-woven}
 use Rattle.orc_columns.specs.declared.fault.ColumnFault.{ColumnFault}
-use Rattle.orc_columns.specs.declared.fault.ColumnFault.TheVariants.{BadEncoding, Run}
-use Rattle.orc_columns.specs.declared.fault.StreamName.TheVariants as name
+use Rattle.orc_columns.specs.declared.fault.ColumnFault.TheVariants.{BadEncoding}
 use Rattle.orc_columns.specs.declared.plan.ColumnPlan.{ColumnPlan}
 use Rattle.orc_columns.specs.declared.spelling.Spelling.{Spelling}
 use Rattle.orc_columns.specs.declared.spelling.Spelling.TheVariants.{Bits, Integers, Texts, Dictionary}

@@ -3,7 +3,6 @@ mod Decoders
 mod DenseRows
 mod Drawing
 mod EitherColumn
-mod EntryRows
 mod Fronts
 mod Judged
 mod JudgedColumns

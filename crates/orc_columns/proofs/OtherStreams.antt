@@ -1,10 +1,9 @@
 -- Takes leave every stream that they aren't of.
-use Rattle.std.proofs.Common.{◌≡◌, ℕ, ◌+◌, ◌==◌, Bool, false, List, [], ◌∷◌, ◌++◌, Option, Some, None, refl, sym, ◌∙◌, ap, subst, arith, inl, inr}
-use Rattle.outside.specs.Feed.{Taken, AllOf, Lost, taken_of}
+use Rattle.std.proofs.Common.{◌≡◌, ℕ, ◌+◌, ◌==◌, false, List, [], ◌∷◌, ◌++◌, Option, Some, None, refl, ◌∙◌, ap, subst, arith, inl, inr}
+use Rattle.outside.specs.Feed.{Taken, Lost, taken_of}
 use Rattle.orc_columns.specs.declared.plan.ColumnPlan.{ColumnPlan}
-use Rattle.orc_columns.specs.Column.{Streams}
-use Rattle.orc_columns.specs.Draws.{IsOfPlan, AllOfPlan, Differ, Tells}
-use Rattle.orc_columns.specs.Laws.{Apart, IsNoneOf, LeaveAColumn, LeaveAStream}
+use Rattle.orc_columns.specs.Draws.{IsOfPlan, AllOfPlan, Differ}
+use Rattle.orc_columns.specs.Laws.{IsNoneOf, LeaveAColumn, LeaveAStream}
 use Rattle.row_flags.specs.Optional.{rest_in, AllIn}
 use Rattle.orc_columns.specs.Turns.{InTurn}
 use Rattle.orc_columns.proofs.Drawing.{none_lost, none_taken}

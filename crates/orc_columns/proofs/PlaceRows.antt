@@ -25,7 +25,8 @@ use Rattle.orc_columns.specs.Batches.{NumbersGoOn, NumbersBreak, ValuesGoOn, Val
 use Rattle.orc_columns.specs.Column.{Streams, AreLengths, places, index, entry_text, places_of, rows_of}
 use Rattle.orc_columns.specs.Decoders.{IntegersOf}
 use Rattle.orc_columns.specs.Draws.{Draws, Decided, IsReadError}
-use Rattle.orc_columns.specs.Entries.{row_texts, chosen, IsOutOf}
+use Rattle.row_texts.specs.Lookup.{row_texts, chosen}
+use Rattle.orc_columns.specs.Entries.{IsOutOf}
 use Rattle.orc_columns.specs.Spelling.{IntRun, int_run}
 use Rattle.orc_columns.proofs.DenseRows.{dense_rows}
 use Rattle.orc_columns.proofs.Drawing.{Draws-ok, Draws-fault, Draws-stops}

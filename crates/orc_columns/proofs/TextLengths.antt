@@ -1,6 +1,6 @@
 -- Lengths of texts, and how many bytes they are together.
-use Rattle.std.proofs.Common.{◌≡◌, ℕ, zero, suc, ◌+◌, ◌<◌, ◌≤◌, Bool, false, List, [], ◌∷◌, ◌++◌, length, map, take, sum, Option, Ok, Err, ℤ, pos, negsuc, unsigned_abs, refl, sym, ◌∙◌, ap, subst, arith, length-append}
-use Rattle.std.specs.Prelude.{Result, slice_index_or, All, IfErr}
+use Rattle.std.proofs.Common.{◌≡◌, ℕ, suc, ◌+◌, Bool, false, List, [], ◌∷◌, ◌++◌, length, map, sum, Option, Ok, Err, ℤ, pos, negsuc, unsigned_abs, refl, sym, ◌∙◌, ap, subst, arith, length-append}
+use Rattle.std.specs.Prelude.{Result, All, IfErr}
 use Rattle.std.specs.Int.{IsNonNegative}
 use Rattle.std.proofs.lemmas.List.{map-append, length-map}
 use Rattle.std.proofs.lemmas.List.Elements.{Contains-append_right}
@@ -8,7 +8,6 @@ use Rattle.std.proofs.lemmas.List.Sums.{sum_by-append}
 use Rattle.outside.specs.Feed.{Taken, Lost, taken_of}
 use Rattle.outside.specs.Reading.{placed}
 use Rattle.outside.specs.Runs.{Between, Breaks}
-use Rattle.orc_values.specs.TextsLaws.{sum-cons}
 use Rattle.orc_columns.specs.declared.fault.ColumnFault.{ColumnFault}
 use Rattle.orc_columns.specs.declared.fault.ColumnFault.TheVariants.{BadEncoding, Run, NegativeLength, LengthsPastData, IndexOutOfDictionary, Read, NoMemory}
 use Rattle.orc_columns.specs.declared.plan.ColumnPlan.{ColumnPlan}
@@ -20,15 +19,6 @@ use Rattle.orc_columns.specs.Draws.{Draws, Decided, IsReadError}
 use Rattle.orc_columns.specs.Spelling.{IntRun, int_run}
 use Rattle.orc_columns.proofs.Drawing.{Draws-ok, Draws-stops}
 use Rattle.orc_columns.specs.Turns.{alone}
-
-some_of : (numbers : List ℤ) (i : ℕ) → i < length numbers → sum (map unsigned_abs (take i numbers)) + unsigned_abs (slice_index_or numbers i (pos 0)) ≤ sum (map unsigned_abs numbers)
-some_of [] i h = absurd (omega arith)
-some_of (x ∷ numbers) zero h = omega (arith, sum-cons (unsigned_abs x) (map unsigned_abs numbers))
-some_of (x ∷ numbers) (suc i) h = omega (arith, some_of numbers i (omega arith), sum-cons (unsigned_abs x) (map unsigned_abs (take i numbers)), sum-cons (unsigned_abs x) (map unsigned_abs numbers))
-
--- what is left before a length is less than it
-pub past_room : (numbers : List ℤ) (i left room : ℕ) → i < length numbers → left < unsigned_abs (slice_index_or numbers i (pos 0)) → left + sum (map unsigned_abs (take i numbers)) ≡ room → room < sum (map unsigned_abs numbers)
-past_room numbers i left room h less is = omega (arith, some_of numbers i h)
 
 pub sum-append : (xs ys : List ℕ) → sum (xs ++ ys) ≡ sum xs + sum ys
 sum-append xs ys = sum_by-append (λ (n : ℕ). n) xs ys

@@ -4,9 +4,8 @@
 -- null, that bytes behind the last run that is needed are ignored, and the conditions and their order are this project's
 -- own: 1 the encoding, 2 PRESENT, 3 LENGTH, 4 a negative length, 5 lengths past the data, 6 DATA, 7 the number of an entry.
 -- Each is judged over all rows before the next.
-use Rattle.std.specs.Prelude.{◌≡◌, ℕ, ◌<◌, ◌≤◌, Bool, true, false, List, [], ◌∷◌, length, map, replicate, sum, Option}
-use Rattle.std.specs.Prelude.{Some, None, ℤ, pos, negsuc, All, Contains, slice_index_or}
-use Rattle.std.specs.Int.{w64, cast_unsigned}
+use Rattle.std.specs.Prelude.{◌≡◌, ℕ, ◌<◌, ◌≤◌, Bool, true, false, List, [], length, map, sum, Option}
+use Rattle.std.specs.Prelude.{Some, None, ℤ, pos, All, Contains, slice_index_or}
 use Rattle.outside.specs.declared.run_fault.RunFault.{RunFault}
 use Rattle.outside.specs.Runs.{Spells, Breaks}
 use Rattle.orc_rle.specs.BitRun.{BitRun, bit_run}
@@ -16,6 +15,7 @@ use Rattle.orc_values.specs.Column.{value_by}
 use Rattle.orc_values.specs.Texts.{slices}
 use Rattle.orc_values.specs.Woven.{present_count, woven}
 pub use Rattle.row_flags.specs.Present.{ArePresent, PresentBreaks}
+pub use Rattle.row_texts.specs.Lookup.{IsNegative, places_of}
 use Rattle.orc_columns.specs.declared.fault.ColumnFault.{ColumnFault}
 use Rattle.orc_columns.specs.declared.fault.ColumnFault.TheVariants.{BadEncoding, Run, NegativeLength, LengthsPastData}
 use Rattle.orc_columns.specs.declared.fault.ColumnFault.TheVariants.{IndexOutOfDictionary}
@@ -44,10 +44,6 @@ pub record AreLengths (version : Version) (stream : List ℕ) (limit : ℕ) (len
   pub spelled : AreNumbers version false stream (map pos lengths)
   pub within : sum lengths ≤ limit
 
-abbrev pub IsNegative : ℤ → Type 0
-IsNegative (pos n) = ⊥
-IsNegative (negsuc n) = Unit {0}
-
 -- The first fault of so many lengths of texts with so many bytes: of LENGTH's runs; a length with its 64th bit set;
 -- or that they are more bytes than there are.
 pub data LengthsFail (version : Version) (stream : List ℕ) (limit count : ℕ) : ColumnFault → Type 0 where
@@ -63,10 +59,6 @@ pub data LengthsFail (version : Version) (stream : List ℕ) (limit count : ℕ)
 -- the text of an entry of a dictionary; a number past the last names none
 abbrev pub entry_text : List (List ℕ) → ℕ → Value
 entry_text entries place = value.Text (slice_index_or entries place [])
-
--- Numbers of entries, as the 64 bits that the stream spells them by.
-abbrev pub places_of : List ℤ → List ℕ
-places_of numbers = map (cast_unsigned w64) numbers
 
 -- The values that aren't null, in order, by the spelling: a bit of DATA each; a signed number of DATA each; a slice of
 -- DATA each, at the sum of the lengths before it; or an entry of the dictionary each, by its number in DATA, where

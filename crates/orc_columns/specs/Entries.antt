@@ -1,22 +1,12 @@
 -- The entries of a dictionary, and the texts of rows by their numbers. Source: this project's own.
-use Rattle.std.specs.Prelude.{◌≡◌, ℕ, ◌≤◌, Bool, false, List, [], length, map, ℤ, Contains, slice_index_or}
-use Rattle.std.specs.Option.{unwrap_or}
+use Rattle.std.specs.Prelude.{◌≡◌, ℕ, ◌≤◌, false, List, length, ℤ, Contains}
 use Rattle.outside.specs.Runs.{Spells}
-use Rattle.orc_values.specs.Woven.{woven}
 use Rattle.orc_columns.specs.declared.fault.ColumnFault.{ColumnFault}
 use Rattle.orc_columns.specs.declared.fault.ColumnFault.TheVariants.{IndexOutOfDictionary, NoMemory}
 use Rattle.orc_columns.specs.declared.spelling.Version.{Version}
 use Rattle.orc_columns.specs.Column.{Streams, places_of}
 use Rattle.orc_columns.specs.Spelling.{IntRun}
 use Rattle.orc_columns.specs.Draws.{OnlyLengths}
-
--- the entries of these numbers
-abbrev pub chosen : List (List ℕ) → List ℕ → List (List ℕ)
-chosen entries places = map (λ place. slice_index_or entries place []) places
-
--- the text of each row, empty where its flag isn't set
-abbrev pub row_texts : List Bool → List (List ℕ) → List (List ℕ)
-row_texts flags texts = map (λ text. unwrap_or text []) (woven flags texts)
 
 -- a number isn't below that of the entries, or memory was refused
 abbrev pub IsOutOf : List (List ℕ) → List ℤ → ColumnFault → Type 0

@@ -6,7 +6,8 @@ ghost use Rattle.outside.specs.Reading.{placed};
 ghost use Rattle.orc_values.specs.Texts.{running_ends};
 ghost use Rattle.orc_columns.specs.declared.fault.ColumnFault.TheVariants as fault;
 ghost use Rattle.orc_columns.specs.Column.{places_of};
-ghost use Rattle.orc_columns.specs.Entries.{row_texts, chosen, IsOutOf, LengthsRead};
+ghost use Rattle.row_texts.specs.Lookup.{row_texts, chosen};
+ghost use Rattle.orc_columns.specs.Entries.{IsOutOf, LengthsRead};
 ghost use Rattle.orc_values.specs.Column.{entries_in};
 ghost use Rattle.orc_values.specs.Dense.{AreKept};
 ghost use Rattle.orc_values.specs.Woven.{present_count};
@@ -29,6 +30,7 @@ use crate::text_bytes::read_bytes;
 use orc_values::{ColumnValues, Texts};
 use outside::{Feed, NoMemory};
 use row_flags::BATCH;
+use row_texts::{ends_of, is_any_past, push_rows};
 use std::alloc::Global;
 
 /// Texts of a dictionary, each spelled by the number of its entry in DATA.
@@ -114,50 +116,6 @@ fn looked_up(
     Ok(texts)
 }
 
-/// Whether a number isn't below that of the entries.
-fn is_any_past(places: &[i64], size: usize) -> bool
-    ensures some { IsTrue result → (place : ℕ) × Contains (places_of places.now) place × (size ≤ place) }
-    ensures none { IsFalse result → All (λ place. place < size) (places_of places.now) }
-{
-    for place in places {
-        if number_of(*place) >= size {
-            return true;
-        }
-    }
-    false
-}
-
-/// The number of an entry, by its 64 bits.
-fn number_of(place: i64) -> usize
-    ensures { result ≡ cast_unsigned w64 place }
-{
-    place.cast_unsigned() as usize
-}
-
-/// Adds the text of each row: an entry, or an empty one where the flag isn't set.
-fn push_rows(
-    entries: &Texts,
-    flags: &[bool],
-    places: &[i64],
-    texts: &mut Texts,
-) -> Result<(), NoMemory>
-    requires dense { length places.now ≡ present_count flags.now }
-    requires below { All (λ place. place < length entries.now) (places_of places.now) }
-    requires none { texts.old ≡ [] }
-    ensures { OnOk result (texts.new ≡ row_texts flags.now (chosen entries.now (places_of places.now))) }
-{
-    let mut used = 0;
-    for present in flags {
-        if *present {
-            texts.push(entries.get(number_of(places[used])))?;
-            used += 1;
-        } else {
-            texts.push(b"".as_slice())?;
-        }
-    }
-    Ok(())
-}
-
 /// The entries of a dictionary: all its lengths are read, and then the bytes of all its texts at once.
 pub(crate) fn read_entries<F: Feed>(
     alloc: Global,
@@ -197,20 +155,4 @@ fn entry_lengths<F: Feed>(
     let mut integers = Integers::new(plan.length, version, false);
     push_all_lengths(&mut integers, feed, lengths, plan.dictionary_size)?;
     total_of(lengths, plan.dictionary_len)
-}
-
-/// The ends of texts by their lengths.
-fn ends_of(alloc: Global, lengths: &[i64]) -> Result<Vec<usize>, ColumnFault>
-    requires positive { All IsNonNegative lengths.now }
-    requires fits { sum (map unsigned_abs lengths.now) < 2 ^ 64 }
-    ensures ends { IfOk result (λ ends. ends.items ≡ running_ends 0 (map unsigned_abs lengths.now)) }
-    ensures refused { IfErr result (λ e. e ≡ fault.NoMemory) }
-{
-    let mut ends = Vec::new(alloc);
-    let mut end = 0;
-    for length in lengths {
-        end += *length as usize;
-        ends.push(end)?;
-    }
-    Ok(ends)
 }

@@ -13,6 +13,7 @@ use crate::fault::ColumnFault;
 use crate::fills::fill_lengths;
 use crate::integers::Integers;
 use outside::Feed;
+use row_texts::{has_negative, room_after};
 
 /// Gives the next lengths of texts, and answers how many bytes they are together, where there is room for so many.
 ///
@@ -56,24 +57,4 @@ pub(crate) fn total_of(lengths: &[i64], room: u64) -> Result<u64, ColumnFault>
         Some(left) => Ok(room - left),
         None => Err(ColumnFault::LengthsPastData),
     }
-}
-
-/// Whether a length is negative.
-fn has_negative(lengths: &[i64]) -> bool
-    ensures some { IsTrue result → (number : ℤ) × Contains lengths.now number × IsNegative number }
-    ensures none { IsFalse result → All IsNonNegative lengths.now }
-{
-    lengths.iter().any(|length| *length < 0)
-}
-
-/// How much room is left behind texts of these lengths, or None where there is too little.
-fn room_after(lengths: &[i64], room: u64) -> Option<u64>
-    requires { All IsNonNegative lengths.now }
-    ensures { MatchOption result (room < sum (map unsigned_abs lengths.now)) (λ left. left + sum (map unsigned_abs lengths.now) ≡ room) }
-{
-    let mut left = room;
-    for length in lengths {
-        left = left.checked_sub(*length as u64)?;
-    }
-    Some(left)
 }

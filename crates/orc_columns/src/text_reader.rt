@@ -19,6 +19,7 @@ use crate::text_bytes::read_bytes;
 use orc_values::{ColumnValues, Texts, lay_ends};
 use outside::Feed;
 use row_flags::BATCH;
+use row_texts::laid_texts;
 use std::alloc::Global;
 
 /// Texts, each spelled by its length in LENGTH and its bytes in DATA.
@@ -70,18 +71,4 @@ pub(crate) fn text_memory(alloc: Global, older: ColumnValues) -> (Vec<u8>, Vec<u
         ColumnValues::Texts(texts) => texts.into_parts(),
         _ => (Vec::new(alloc), Vec::new(alloc)),
     }
-}
-
-/// The texts of rows, by the lengths of those that aren't null and by their bytes.
-fn laid_texts(flags: &[bool], lengths: &[i64], bytes: Vec<u8>, ends: Vec<usize>) -> Texts
-    requires rows { length ends.items ≡ length flags.now }
-    requires dense { length lengths.now ≡ present_count flags.now }
-    requires positive { All IsNonNegative lengths.now }
-    requires all { sum (map unsigned_abs lengths.now) ≡ length bytes.items }
-    ensures rows { length result ≡ length flags.now }
-    ensures texts { aligned flags.now result ≡ woven flags.now (slices 0 (map unsigned_abs lengths.now) bytes.items) }
-{
-    let mut ends = ends;
-    lay_ends(flags, lengths, 0, &mut ends);
-    Texts::new(bytes, ends)
 }

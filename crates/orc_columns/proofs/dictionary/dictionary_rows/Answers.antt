@@ -8,7 +8,8 @@ use Rattle.orc_values.specs.Column.{value_by}
 use Rattle.orc_values.specs.Woven.{woven, aligned}
 use Rattle.orc_values.specs.WovenLaws.{present_count-le}
 use Rattle.orc_columns.specs.Column.{places_of}
-use Rattle.orc_columns.specs.Entries.{row_texts, chosen, IsOutOf}
+use Rattle.row_texts.specs.Lookup.{row_texts, chosen}
+use Rattle.orc_columns.specs.Entries.{IsOutOf}
 use Rattle.orc_columns.proofs.PlaceRows.{aligned_texts, length-row_texts, length-chosen, places_ok, places_fault, places_out}
 use Rattle.orc_columns.proofs.dictionary.dictionary_rows.Goals as goal
 

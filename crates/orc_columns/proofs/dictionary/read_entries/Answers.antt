@@ -31,7 +31,7 @@ returns-in_err-ends-clause-draws g c =
     let version = c.args.version in
     let size = plan.dictionary_size in
     let p = err_from_is_err_and c.from_residual-in_err-ends.result c.from_residual-in_err-ends.ensures.1 in
-    rw (p.1, p.2, c.in_err-ends.ensures.refused) (Draws-front f.rest f.fed f.fault_count plan m.fed_lost m.fed_nothing m.fed_joined (alone plan.dictionary) c.args.feed.now c.entry_lengths.new.feed
+    rw (p.1, p.2) (Draws-front f.rest f.fed f.fault_count plan m.fed_lost m.fed_nothing m.fed_joined (alone plan.dictionary) c.args.feed.now c.entry_lengths.new.feed
     (EntriesRead version size) (EntriesFail version size) (Err NoMemory)
     (Draws-stops f.rest f.fed f.fault_count plan m.fed_lost m.fed_nothing m.fed_joined c.args.feed.now c.entry_lengths.new.feed
     (LengthsRead version size) (EntriesRead version size) (EntriesFail version size) (EntriesFail version size) c.entry_lengths.new.lengths.items NoMemory (λ no. no)

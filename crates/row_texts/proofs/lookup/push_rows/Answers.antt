@@ -5,11 +5,11 @@ use Rattle.std.proofs.lemmas.Int.{to_z-of_z}
 use Rattle.std.proofs.lemmas.List.{get_or-map, length-map}
 use Rattle.std.proofs.lemmas.Option.{get_or_from_slice_get}
 use Rattle.orc_values.specs.Woven.{present_count}
-use Rattle.orc_columns.specs.Column.{places_of}
-use Rattle.orc_columns.specs.Entries.{chosen}
-use Rattle.orc_columns.proofs.EntryRows.{flags_from, push_present, push_absent}
-use Rattle.orc_columns.proofs.dictionary.push_rows.Goals as goal
-use Rattle.orc_columns.proofs.dictionary.push_rows.Goals.{then-present+in_ok-push, else-present+in_ok-push-2}
+use Rattle.row_texts.specs.Lookup.{places_of}
+use Rattle.row_texts.specs.Lookup.{chosen}
+use Rattle.row_texts.proofs.EntryRows.{flags_from, push_present, push_absent}
+use Rattle.row_texts.proofs.lookup.push_rows.Goals as goal
+use Rattle.row_texts.proofs.lookup.push_rows.Goals.{then-present+in_ok-push, else-present+in_ok-push-2}
 
 pub get-requires : goal.get-requires
 get-requires c =

@@ -1,7 +1,7 @@
 use Rattle.std.proofs.Common.{length, sym, ◌∙◌, ap}
 use Rattle.std.specs.Vec.{with_items}
 use Rattle.orc_values.specs.TextsLaws.{length-texts_from}
-use Rattle.orc_columns.proofs.text_reader.laid_texts.Goals as goal
+use Rattle.row_texts.proofs.lengths.laid_texts.Goals as goal
 
 pub returns-clause-rows : goal.returns-clause-rows
 returns-clause-rows c =

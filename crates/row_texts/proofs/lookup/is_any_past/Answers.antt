@@ -1,7 +1,7 @@
 use Rattle.std.proofs.Common.{◌<◌, length, pos, arith}
 use Rattle.std.specs.Int.{w64, cast_unsigned}
 use Rattle.std.proofs.lemmas.List.{get_or-map, length-map}
-use Rattle.orc_columns.proofs.dictionary.is_any_past.Goals as goal
+use Rattle.row_texts.proofs.lookup.is_any_past.Goals as goal
 
 pub returns-clause-none : goal.returns-clause-none
 returns-clause-none c = λ none k d h.

@@ -2,7 +2,7 @@
 use Rattle.std.proofs.Common.{◌≡◌, ℕ, suc, ◌+◌, ◌<◌, Bool, true, false, List, [], ◌∷◌, ◌++◌, length, drop, refl, sym, ◌∙◌, ap, append_assoc, add-one}
 use Rattle.std.specs.Prelude.{slice_index_or}
 use Rattle.std.proofs.Math.Seq.{drop-cons}
-use Rattle.orc_columns.specs.Entries.{row_texts}
+use Rattle.row_texts.specs.Lookup.{row_texts}
 
 -- the flags from a row on, and the texts from one on
 pub flags_from : (flags : List Bool) (i : ℕ) (flag : Bool) → i < length flags → slice_index_or flags i false ≡ flag → drop i flags ≡ flag ∷ drop (i + 1) flags

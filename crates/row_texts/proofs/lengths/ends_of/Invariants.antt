@@ -1,6 +1,6 @@
 use Rattle.std.proofs.Common.{◌≡◌, ◌+◌, ◌++◌, drop, map, sum, unsigned_abs}
 use Rattle.orc_values.specs.Texts.{running_ends}
-use Rattle.orc_columns.proofs.dictionary.ends_of.Given as goal
+use Rattle.row_texts.proofs.lengths.ends_of.Given as goal
 
 abbrev pub invariant-loop-length : goal.invariant-loop-length
 invariant-loop-length l = record {

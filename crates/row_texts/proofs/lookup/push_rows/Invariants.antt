@@ -1,8 +1,8 @@
 use Rattle.std.proofs.Common.{◌≡◌, ◌+◌, ◌++◌, length, drop}
 use Rattle.orc_values.specs.Woven.{present_count}
-use Rattle.orc_columns.specs.Column.{places_of}
-use Rattle.orc_columns.specs.Entries.{row_texts, chosen}
-use Rattle.orc_columns.proofs.dictionary.push_rows.Given as goal
+use Rattle.row_texts.specs.Lookup.{places_of}
+use Rattle.row_texts.specs.Lookup.{row_texts, chosen}
+use Rattle.row_texts.proofs.lookup.push_rows.Given as goal
 
 abbrev pub invariant-loop-present : goal.invariant-loop-present
 invariant-loop-present l = record {

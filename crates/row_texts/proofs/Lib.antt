@@ -1,0 +1,2 @@
+mod EntryRows
+mod Rooms

@@ -1,0 +1,66 @@
+//! Lengths of texts: how many bytes they are together, and where each text ends.
+ghost use Rattle.std.specs.Prelude.{◌≡◌, ◌+◌, ◌<◌, ◌^◌, ℤ, length, map, sum, unsigned_abs, All, Contains, MatchOption};
+ghost use Rattle.std.specs.Prelude.{IfOk, IsTrue, IsFalse};
+ghost use Rattle.std.specs.Int.{IsNonNegative};
+ghost use Rattle.orc_values.specs.Texts.{running_ends, slices};
+ghost use Rattle.orc_values.specs.Woven.{present_count, woven, aligned};
+ghost use Rattle.row_texts.specs.Lookup.{IsNegative};
+
+use orc_values::{Texts, lay_ends};
+use outside::NoMemory;
+use std::alloc::Global;
+
+/// Whether a length is negative.
+pub fn has_negative(lengths: &[i64]) -> bool
+    ensures some { IsTrue result → (number : ℤ) × Contains lengths.now number × IsNegative number }
+    ensures none { IsFalse result → All IsNonNegative lengths.now }
+{
+    lengths.iter().any(|length| *length < 0)
+}
+
+/// How much room is left behind texts of these lengths, or None where there is too little.
+pub fn room_after(lengths: &[i64], room: u64) -> Option<u64>
+    requires { All IsNonNegative lengths.now }
+    ensures { MatchOption result (room < sum (map unsigned_abs lengths.now)) (λ left. left + sum (map unsigned_abs lengths.now) ≡ room) }
+{
+    let mut left = room;
+    for length in lengths {
+        left = left.checked_sub(*length as u64)?;
+    }
+    Some(left)
+}
+
+/// The ends of texts by their lengths, in memory of their own.
+///
+/// Answers `NoMemory` only where memory for them was refused.
+pub fn ends_of(alloc: Global, lengths: &[i64]) -> Result<Vec<usize>, NoMemory>
+    requires positive { All IsNonNegative lengths.now }
+    requires fits { sum (map unsigned_abs lengths.now) < 2 ^ 64 }
+    ensures ends { IfOk result (λ ends. ends.items ≡ running_ends 0 (map unsigned_abs lengths.now)) }
+{
+    let mut ends = Vec::new(alloc);
+    let mut end = 0;
+    for length in lengths {
+        end += *length as usize;
+        if ends.push(end).is_err() {
+            return Err(NoMemory);
+        }
+    }
+    Ok(ends)
+}
+
+/// The texts of rows, by the lengths of those that aren't null and by their bytes. It keeps both lists: no memory is taken.
+///
+/// `ends` has an entry for each row, which is overwritten.
+pub fn laid_texts(flags: &[bool], lengths: &[i64], bytes: Vec<u8>, ends: Vec<usize>) -> Texts
+    requires rows { length ends.items ≡ length flags.now }
+    requires dense { length lengths.now ≡ present_count flags.now }
+    requires positive { All IsNonNegative lengths.now }
+    requires all { sum (map unsigned_abs lengths.now) ≡ length bytes.items }
+    ensures rows { length result ≡ length flags.now }
+    ensures texts { aligned flags.now result ≡ woven flags.now (slices 0 (map unsigned_abs lengths.now) bytes.items) }
+{
+    let mut ends = ends;
+    lay_ends(flags, lengths, 0, &mut ends);
+    Texts::new(bytes, ends)
+}
