@@ -1,5 +1,6 @@
 -- The free blocks of an arena, and which of them serves an order. Source: this project's own; after the buddy system.
-use Rattle.std.specs.Prelude.{ℕ, zero, suc, ◌+◌, ◌*◌, ◌/◌, ◌%◌, ◌^◌, ◌<◌, ◌≤◌, Bool, ◌&&◌, not, nat_le, ◌==◌, if◌then◌else◌, Option, Some, None}
+use Rattle.std.specs.Prelude.{ℕ, zero, suc, ◌+◌, ◌*◌, ◌/◌, ◌%◌, ◌^◌, ◌<◌, ◌≤◌, Bool, ◌&&◌}
+use Rattle.std.specs.Prelude.{not, nat_le, ◌==◌, if◌then◌else◌, Option, Some, None}
 use Rattle.std.specs.Option.{option_or}
 use Rattle.buddy_arena.specs.Block.{around, IsBlock, IsClear}
 

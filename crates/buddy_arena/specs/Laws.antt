@@ -1,5 +1,6 @@
 -- Laws of blocks, masks and answers, for those who call `mask`, `find` and `window`.
-use Rattle.std.specs.Prelude.{◌≡◌, ℕ, ◌+◌, ◌-◌, ◌*◌, ◌/◌, ◌%◌, ◌^◌, ◌<◌, ◌≤◌, ◌≢◌, ◌↔◌, bit_and, bit_or, count_ones, List, slice_index, Option, Some, None}
+use Rattle.std.specs.Prelude.{◌≡◌, ℕ, ◌+◌, ◌-◌, ◌*◌, ◌/◌, ◌%◌, ◌^◌, ◌<◌, ◌≤◌, ◌≢◌, ◌↔◌, bit_and}
+use Rattle.std.specs.Prelude.{bit_or, count_ones, List, slice_index, Option, Some, None}
 use Rattle.std.specs.Int.{w64, bit_at, bit_not}
 use Rattle.buddy_arena.specs.Block.{around, IsBlock, covers, IsClear, IsMask}
 use Rattle.buddy_arena.specs.Buddy.{IsClearBlock, IsBuddyAnswer, buddy_answer}
@@ -60,4 +61,6 @@ JoinedBits = (words : List ℕ) → ((i : ℕ) → slice_index words i < 2 ^ 64)
 
 -- the free blocks of 0xFF0F are those of order 2 at 4, of order 4 at 16 and of order 5 at 32
 abbrev pub WorkedAnswers : Type 0
-WorkedAnswers = (buddy_answer 64 0xFF0F 2 ≡ Some 4) × (buddy_answer 64 0xFF0F 3 ≡ Some 16) × (buddy_answer 64 0xFF0F 5 ≡ Some 32) × (buddy_answer 64 0xFF0F 6 ≡ None) × (buddy_answer 64 0 6 ≡ Some 0)
+WorkedAnswers =
+    (buddy_answer 64 0xFF0F 2 ≡ Some 4) × (buddy_answer 64 0xFF0F 3 ≡ Some 16) × (buddy_answer 64 0xFF0F 5 ≡ Some 32)
+    × (buddy_answer 64 0xFF0F 6 ≡ None) × (buddy_answer 64 0 6 ≡ Some 0)

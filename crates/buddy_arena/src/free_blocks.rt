@@ -56,7 +56,8 @@ fn larger_blocks(clear: u64, order: u32) -> u64
 /// a larger one.
 fn free_blocks(clear: u64, larger: u64, order: u32) -> u64
     requires { order < 6 }
-    ensures { (bits : ℕ) → IsSetOf clear (λ p. IsClearBlock 64 bits p order) → IsSetOf larger (λ p. IsClearBlock 64 bits p (order + 1)) → IsSetOf result (λ p. IsFree 64 bits p order) }
+    ensures { (bits : ℕ) → IsSetOf clear (λ p. IsClearBlock 64 bits p order)
+        → IsSetOf larger (λ p. IsClearBlock 64 bits p (order + 1)) → IsSetOf result (λ p. IsFree 64 bits p order) }
 {
     clear & !(larger | larger << places(order))
 }

@@ -2,7 +2,9 @@
 //!
 //! No function here does anything: each contract is a law, for arenas of any size and for all orders.
 
-ghost use Rattle.buddy_arena.specs.Laws.{AroundIsBlock, BlockInArena, CoversInArena, BlockHasSmaller, BuddyIsClearBlock, BuddyIsAnswer, OneWindow, MaskTestsClear, SettingTakes, ClearingGives, MaskCountsTaken, JoinedBits, WorkedAnswers};
+ghost use Rattle.buddy_arena.specs.Laws.{AroundIsBlock, BlockInArena, CoversInArena, BlockHasSmaller};
+ghost use Rattle.buddy_arena.specs.Laws.{BuddyIsClearBlock, BuddyIsAnswer, OneWindow, MaskTestsClear, SettingTakes};
+ghost use Rattle.buddy_arena.specs.Laws.{ClearingGives, MaskCountsTaken, JoinedBits, WorkedAnswers};
 
 /// In an arena of whole blocks of an order, the block around each place is a block. So one can be shown to `mask`.
 pub fn around_is_block()

@@ -1,10 +1,13 @@
 -- For those who make several calls in a row: what follows by name from the step that a call made, as lemmas that a proof of
 -- theirs can use. `m` says in each which step was made, from the view v to the view w.
-use Rattle.std.specs.Prelude.{◌≡◌, ◌≢◌, ◌==◌, ℕ, ◌-◌, ◌%◌, ◌<◌, replicate, if◌then◌else◌, Bool, true, false, List, [], ◌∷◌, ◌++◌, map, length, Option, None, Some, IfSome, IsSomeAnd, Err, option_map, slice_index, slice_index_or, slice_set}
+use Rattle.std.specs.Prelude.{◌≡◌, ◌≢◌, ◌==◌, ℕ, ◌-◌, ◌%◌, ◌<◌, replicate, if◌then◌else◌, Bool, true}
+use Rattle.std.specs.Prelude.{false, List, [], ◌∷◌, ◌++◌, map, length, Option, None, Some, IfSome, IsSomeAnd}
+use Rattle.std.specs.Prelude.{Err, option_map, slice_index, slice_index_or, slice_set}
 use Rattle.std.proofs.Common.{refl, sym, ◌∙◌, ap, subst, inl, inr, arith}
 use Rattle.std.proofs.lemmas.Bool.{cases_eq, cases_lt}
 use Rattle.std.proofs.lemmas.Option.{none-some}
-use Rattle.std.proofs.lemmas.List.{length-set, length-drop, length-replicate, get_or-set_same, get_or-set_other, get_or_past, get_or-replicate, set_past, take-append-drop, append_assoc, append-nil}
+use Rattle.std.proofs.lemmas.List.{length-set, length-drop, length-replicate, get_or-set_same, get_or-set_other}
+use Rattle.std.proofs.lemmas.List.{get_or_past, get_or-replicate, set_past, take-append-drop, append_assoc, append-nil}
 use Rattle.pool_model.specs.declared.block.Block.{Block}
 use Rattle.pool_model.specs.declared.step.Step.{Step}
 use Rattle.pool_model.specs.Content.{Files}
@@ -19,9 +22,12 @@ use Rattle.pool_rule.specs.declared.view.Hold.TheVariants.{Free, Bid, Pinned}
 use Rattle.pool_rule.specs.declared.view.Mark.{Mark}
 use Rattle.pool_rule.specs.declared.view.View.{View}
 use Rattle.pool_rule.specs.declared.word_step.WordStep.{WordStep}
-use Rattle.pool_rule.specs.declared.word_step.WordStep.TheVariants.{Looked, LookedAtCell, Missed, Granted, Returned, Opened, Named, Filled, Published, Counted, Uncounted, EvictBegun, HeaderReleased, Updated}
+use Rattle.pool_rule.specs.declared.word_step.WordStep.TheVariants.{Looked, LookedAtCell, Missed, Granted, Returned}
+use Rattle.pool_rule.specs.declared.word_step.WordStep.TheVariants.{Opened, Named, Filled, Published, Counted}
+use Rattle.pool_rule.specs.declared.word_step.WordStep.TheVariants.{Uncounted, EvictBegun, HeaderReleased, Updated}
 use Rattle.pool_rule.specs.Layout.{headers_of, places_of}
-use Rattle.pool_rule.specs.Seats.{HasNothing, clear_mark, granted_at, joined, key_of, mark_at, mark_with_key, noted, part_of, parted, with_granted, with_key, with_mark, with_step}
+use Rattle.pool_rule.specs.Seats.{HasNothing, clear_mark, granted_at, joined, key_of, mark_at, mark_with_key}
+use Rattle.pool_rule.specs.Seats.{noted, part_of, parted, with_granted, with_key, with_mark, with_step}
 use Rattle.pool_rule.specs.WordSteps.{IsMade, dropping, effect, event_of, found_by, learnt, left_by, word_at}
 use Rattle.buffer_pool.specs.declared.fault.Held.{Held}
 use Rattle.buffer_pool.specs.declared.pool.Pool.{Pool}
@@ -84,14 +90,16 @@ beside_effect id (Opened header b cells) v = beside_step _ v _ (beside_granted b
 beside_effect id (Named header b key found) v = beside_step _ v _ (beside_mark header _ v)
 beside_effect id (Filled header b key done value found) v = beside_step _ v _ (beside_mark header _ v)
 beside_effect id (Published header b key found) v = beside_step _ v _ (beside_mark header _ v)
-beside_effect id (Counted header found) v = beside_either (found % 16 == 0) v _ _ (beside_step _ v _ (beside_mark header _ v)) (beside_mark header _ v)
+beside_effect id (Counted header found) v = beside_either (found % 16 == 0) v _ _ (beside_step _ v _
+    (beside_mark header _ v)) (beside_mark header _ v)
 beside_effect id (Uncounted header found) v = beside_dropping (mark_at v header).hold id header v
 beside_effect id (EvictBegun header found) v = beside_step _ v _ (beside_mark header _ v)
 beside_effect id (HeaderReleased header b found) v = beside_step _ v _ (beside_granted b.place _ v _ (beside_mark header _ v))
 beside_effect id (Updated word found left) v = beside_same v
 
 -- what the seat has of another header
-other_mark : (header : ℕ) (m : Mark) (v : View) (other : ℕ) → Some header ≢ Some other → mark_at (with_mark header m v) other ≡ mark_at v other
+other_mark : (header : ℕ) (m : Mark) (v : View) (other : ℕ) → Some header ≢ Some other
+    → mark_at (with_mark header m v) other ≡ mark_at v other
 unfolding with_mark
 other_mark header m v other apart = get_or-set_other v.marks header other m clear_mark (λ e. apart (ap Some (sym e)))
 
@@ -103,11 +111,13 @@ mark_of_granted : (place : ℕ) (o : Option ℕ) (w : View) (other : ℕ) → ma
 unfolding with_granted
 mark_of_granted place o w other = refl
 
-mark_of_either : (t : Bool) (a b : View) (m : Mark) (other : ℕ) → mark_at a other ≡ m → mark_at b other ≡ m → mark_at (if t then a else b) other ≡ m
+mark_of_either : (t : Bool) (a b : View) (m : Mark) (other : ℕ) → mark_at a other ≡ m → mark_at b other ≡ m
+    → mark_at (if t then a else b) other ≡ m
 mark_of_either true a b m other p q = p
 mark_of_either false a b m other p q = q
 
-learnt_mark : (word : WordName) (found : ℕ) (v : View) (other : ℕ) → header_of_word word ≢ Some other → mark_at (learnt word found v) other ≡ mark_at v other
+learnt_mark : (word : WordName) (found : ℕ) (v : View) (other : ℕ) → header_of_word word ≢ Some other
+    → mark_at (learnt word found v) other ≡ mark_at v other
 unfolding with_key
 learnt_mark (name.Arena i) found v other apart = refl
 learnt_mark (name.State header) found v other apart = refl
@@ -116,7 +126,8 @@ learnt_mark (name.Touches header) found v other apart = refl
 learnt_mark (name.Last header) found v other apart = refl
 learnt_mark name.Clock found v other apart = refl
 
-dropping_mark : (x : Hold) (id header : ℕ) (v : View) (other : ℕ) → Some header ≢ Some other → mark_at (dropping x id header v) other ≡ mark_at v other
+dropping_mark : (x : Hold) (id header : ℕ) (v : View) (other : ℕ) → Some header ≢ Some other
+    → mark_at (dropping x id header v) other ≡ mark_at v other
 dropping_mark Free id header v other apart = refl
 dropping_mark Bid id header v other apart = other_mark header _ v other apart
 dropping_mark (Pinned b k) id header v other apart = mark_of_step _ _ other ∙ other_mark header _ v other apart
@@ -127,14 +138,18 @@ effect_mark id (LookedAtCell cell found) v other apart = refl
 effect_mark id (Missed word found) v other apart = refl
 effect_mark id (Granted b found) v other apart = mark_of_step _ _ other ∙ mark_of_granted b.place _ v other
 effect_mark id (Returned b found) v other apart = mark_of_step _ _ other ∙ mark_of_granted b.place _ v other
-effect_mark id (Opened header b cells) v other apart = mark_of_step _ _ other ∙ (mark_of_granted b.place _ _ other ∙ other_mark header _ v other apart)
+effect_mark id (Opened header b cells) v other apart =
+    mark_of_step _ _ other ∙ (mark_of_granted b.place _ _ other ∙ other_mark header _ v other apart)
 effect_mark id (Named header b key found) v other apart = mark_of_step _ _ other ∙ other_mark header _ v other apart
 effect_mark id (Filled header b key done value found) v other apart = mark_of_step _ _ other ∙ other_mark header _ v other apart
 effect_mark id (Published header b key found) v other apart = mark_of_step _ _ other ∙ other_mark header _ v other apart
-effect_mark id (Counted header found) v other apart = mark_of_either (found % 16 == 0) _ _ _ other (mark_of_step _ _ other ∙ other_mark header _ v other apart) (other_mark header _ v other apart)
+effect_mark id (Counted header found) v other apart =
+    mark_of_either (found % 16 == 0) _ _ _ other (mark_of_step _ _ other ∙ other_mark header _ v other apart)
+    (other_mark header _ v other apart)
 effect_mark id (Uncounted header found) v other apart = dropping_mark (mark_at v header).hold id header v other apart
 effect_mark id (EvictBegun header found) v other apart = mark_of_step _ _ other ∙ other_mark header _ v other apart
-effect_mark id (HeaderReleased header b found) v other apart = mark_of_step _ _ other ∙ (mark_of_granted b.place _ _ other ∙ other_mark header _ v other apart)
+effect_mark id (HeaderReleased header b found) v other apart =
+    mark_of_step _ _ other ∙ (mark_of_granted b.place _ _ other ∙ other_mark header _ v other apart)
 effect_mark id (Updated word found left) v other apart = refl
 
 -- what is granted to it at another place
@@ -146,11 +161,13 @@ granted_of_mark : (header : ℕ) (m : Mark) (v : View) (place : ℕ) → granted
 unfolding with_mark
 granted_of_mark header m v place = refl
 
-other_granted : (place : ℕ) (o : Option ℕ) (w : View) (other : ℕ) → Some place ≢ Some other → granted_at (with_granted place o w) other ≡ granted_at w other
+other_granted : (place : ℕ) (o : Option ℕ) (w : View) (other : ℕ) → Some place ≢ Some other
+    → granted_at (with_granted place o w) other ≡ granted_at w other
 unfolding with_granted
 other_granted place o w other apart = get_or-set_other w.granted place other o None (λ e. apart (ap Some (sym e)))
 
-granted_of_either : (t : Bool) (a b : View) (o : Option ℕ) (place : ℕ) → granted_at a place ≡ o → granted_at b place ≡ o → granted_at (if t then a else b) place ≡ o
+granted_of_either : (t : Bool) (a b : View) (o : Option ℕ) (place : ℕ) → granted_at a place ≡ o
+    → granted_at b place ≡ o → granted_at (if t then a else b) place ≡ o
 granted_of_either true a b o place p q = p
 granted_of_either false a b o place p q = q
 
@@ -168,20 +185,25 @@ dropping_granted Free id header v place = refl
 dropping_granted Bid id header v place = granted_of_mark header _ v place
 dropping_granted (Pinned b k) id header v place = granted_of_step _ _ place ∙ granted_of_mark header _ v place
 
-effect_granted : (id : ℕ) (s : WordStep) (v : View) (place : ℕ) → place_of s ≢ Some place → granted_at (effect id s v) place ≡ granted_at v place
+effect_granted : (id : ℕ) (s : WordStep) (v : View) (place : ℕ) → place_of s ≢ Some place
+    → granted_at (effect id s v) place ≡ granted_at v place
 effect_granted id (Looked word found) v place apart = learnt_granted word found v place
 effect_granted id (LookedAtCell cell found) v place apart = refl
 effect_granted id (Missed word found) v place apart = refl
 effect_granted id (Granted b found) v place apart = granted_of_step _ _ place ∙ other_granted b.place _ v place apart
 effect_granted id (Returned b found) v place apart = granted_of_step _ _ place ∙ other_granted b.place _ v place apart
-effect_granted id (Opened header b cells) v place apart = granted_of_step _ _ place ∙ (other_granted b.place _ _ place apart ∙ granted_of_mark header _ v place)
+effect_granted id (Opened header b cells) v place apart =
+    granted_of_step _ _ place ∙ (other_granted b.place _ _ place apart ∙ granted_of_mark header _ v place)
 effect_granted id (Named header b key found) v place apart = granted_of_step _ _ place ∙ granted_of_mark header _ v place
 effect_granted id (Filled header b key done value found) v place apart = granted_of_step _ _ place ∙ granted_of_mark header _ v place
 effect_granted id (Published header b key found) v place apart = granted_of_step _ _ place ∙ granted_of_mark header _ v place
-effect_granted id (Counted header found) v place apart = granted_of_either (found % 16 == 0) _ _ _ place (granted_of_step _ _ place ∙ granted_of_mark header _ v place) (granted_of_mark header _ v place)
+effect_granted id (Counted header found) v place apart =
+    granted_of_either (found % 16 == 0) _ _ _ place (granted_of_step _ _ place ∙ granted_of_mark header _ v place)
+    (granted_of_mark header _ v place)
 effect_granted id (Uncounted header found) v place apart = dropping_granted (mark_at v header).hold id header v place
 effect_granted id (EvictBegun header found) v place apart = granted_of_step _ _ place ∙ granted_of_mark header _ v place
-effect_granted id (HeaderReleased header b found) v place apart = granted_of_step _ _ place ∙ (other_granted b.place _ _ place apart ∙ granted_of_mark header _ v place)
+effect_granted id (HeaderReleased header b found) v place apart =
+    granted_of_step _ _ place ∙ (other_granted b.place _ _ place apart ∙ granted_of_mark header _ v place)
 effect_granted id (Updated word found left) v place apart = refl
 
 -- ---- one step
@@ -195,7 +217,9 @@ module _ (files : Option Files) (g : Geometry) (id : ℕ) (s : WordStep) (v w : 
   -- known words are known as the step left them
   pub made_known : w.known ≡ option_map (λ ws. slice_set ws (word_at g s) (left_by s)) v.known
   unfolding noted
-  made_known = ap (λ (u : View). u.known) m.view ∙ ap (option_map (λ ws. slice_set ws (word_at g s) (left_by s))) (beside_effect id s v).known
+  made_known =
+      ap (λ (u : View). u.known) m.view
+      ∙ ap (option_map (λ ws. slice_set ws (word_at g s) (left_by s))) (beside_effect id s v).known
 
   pub made_numbers : w.numbers ≡ v.numbers
   unfolding noted
@@ -213,22 +237,27 @@ module _ (files : Option Files) (g : Geometry) (id : ℕ) (s : WordStep) (v w : 
 
 -- ---- several steps
 
-pub all_trail : (files : Option Files) (g : Geometry) (id : ℕ) (ss : List WordStep) (v w : View) → AreMade files g id ss v w → w.trail ≡ v.trail ++ map (event_of g) ss
+pub all_trail : (files : Option Files) (g : Geometry) (id : ℕ) (ss : List WordStep) (v w : View)
+    → AreMade files g id ss v w → w.trail ≡ v.trail ++ map (event_of g) ss
 all_trail files g id [] v w e = ap (λ (u : View). u.trail) e ∙ sym (append-nil v.trail)
 all_trail files g id (s ∷ ss) v w all =
     all_trail files g id ss all.0 w all.2
-    ∙ (ap (λ l. l ++ map (event_of g) ss) (made_trail files g id s v all.0 all.1) ∙ append_assoc v.trail (event_of g s ∷ []) (map (event_of g) ss))
+    ∙ (ap (λ l. l ++ map (event_of g) ss) (made_trail files g id s v all.0 all.1)
+    ∙ append_assoc v.trail (event_of g s ∷ []) (map (event_of g) ss))
 
 -- steps and then steps
-pub all_then : (files : Option Files) (g : Geometry) (id : ℕ) (ss ts : List WordStep) (v u w : View) → AreMade files g id ss v u → AreMade files g id ts u w → AreMade files g id (ss ++ ts) v w
+pub all_then : (files : Option Files) (g : Geometry) (id : ℕ) (ss ts : List WordStep) (v u w : View)
+    → AreMade files g id ss v u → AreMade files g id ts u w → AreMade files g id (ss ++ ts) v w
 all_then files g id [] ts v u w e all = let P : View → Type 0 = λ x. AreMade files g id ts x w in subst P e all
 all_then files g id (s ∷ ss) ts v u w all more = (all.0, all.1, all_then files g id ss ts all.0 u w all.2 more)
 
 -- one step is a list of steps
-pub one_made : (files : Option Files) (g : Geometry) (id : ℕ) (s : WordStep) (v w : View) → IsMade files g id s v w → AreMade files g id (s ∷ []) v w
+pub one_made : (files : Option Files) (g : Geometry) (id : ℕ) (s : WordStep) (v w : View) → IsMade files g id s v w
+    → AreMade files g id (s ∷ []) v w
 one_made files g id s v w m = (w, m, refl)
 
-pub all_numbers : (files : Option Files) (g : Geometry) (id : ℕ) (ss : List WordStep) (v w : View) → AreMade files g id ss v w → w.numbers ≡ v.numbers
+pub all_numbers : (files : Option Files) (g : Geometry) (id : ℕ) (ss : List WordStep) (v w : View)
+    → AreMade files g id ss v w → w.numbers ≡ v.numbers
 all_numbers files g id [] v w e = ap (λ (u : View). u.numbers) e
 all_numbers files g id (s ∷ ss) v w all = all_numbers files g id ss all.0 w all.2 ∙ made_numbers files g id s v all.0 all.1
 
@@ -241,13 +270,17 @@ abbrev pub AreAwayFrom : ℕ → List WordStep → Type 0
 AreAwayFrom place [] = Unit {0}
 AreAwayFrom place (s ∷ ss) = (place_of s ≢ Some place) × AreAwayFrom place ss
 
-pub all_mark : (files : Option Files) (g : Geometry) (id : ℕ) (ss : List WordStep) (v w : View) → AreMade files g id ss v w → (header : ℕ) → AreApartFrom header ss → mark_at w header ≡ mark_at v header
+pub all_mark : (files : Option Files) (g : Geometry) (id : ℕ) (ss : List WordStep) (v w : View)
+    → AreMade files g id ss v w → (header : ℕ) → AreApartFrom header ss → mark_at w header ≡ mark_at v header
 all_mark files g id [] v w e header apart = ap (λ u. mark_at u header) e
-all_mark files g id (s ∷ ss) v w all header apart = all_mark files g id ss all.0 w all.2 header apart.1 ∙ made_mark files g id s v all.0 all.1 header apart.0
+all_mark files g id (s ∷ ss) v w all header apart =
+    all_mark files g id ss all.0 w all.2 header apart.1 ∙ made_mark files g id s v all.0 all.1 header apart.0
 
-pub all_granted : (files : Option Files) (g : Geometry) (id : ℕ) (ss : List WordStep) (v w : View) → AreMade files g id ss v w → (place : ℕ) → AreAwayFrom place ss → granted_at w place ≡ granted_at v place
+pub all_granted : (files : Option Files) (g : Geometry) (id : ℕ) (ss : List WordStep) (v w : View)
+    → AreMade files g id ss v w → (place : ℕ) → AreAwayFrom place ss → granted_at w place ≡ granted_at v place
 all_granted files g id [] v w e place away = ap (λ u. granted_at u place) e
-all_granted files g id (s ∷ ss) v w all place away = all_granted files g id ss all.0 w all.2 place away.1 ∙ made_granted files g id s v all.0 all.1 place away.0
+all_granted files g id (s ∷ ss) v w all place away =
+    all_granted files g id ss all.0 w all.2 place away.1 ∙ made_granted files g id s v all.0 all.1 place away.0
 
 -- ---- known words
 
@@ -259,17 +292,20 @@ HasWord word value known = IsSomeAnd known (λ ws. (word < length ws) × (slice_
 pub record KnowsWord (word value : ℕ) (v : View) : Type 0 where
   pub is : HasWord word value v.known
 
-found_in : (word found value : ℕ) (k : Option (List ℕ)) → IfSome k (λ ws. slice_index ws word ≡ found) → HasWord word value k → found ≡ value
+found_in : (word found value : ℕ) (k : Option (List ℕ)) → IfSome k (λ ws. slice_index ws word ≡ found)
+    → HasWord word value k → found ≡ value
 found_in word found value None told has = absurd has
 found_in word found value (Some ws) told has = sym told ∙ has.1
 
-left_in : (word left value : ℕ) (k : Option (List ℕ)) → HasWord word value k → HasWord word left (option_map (λ ws. slice_set ws word left) k)
+left_in : (word left value : ℕ) (k : Option (List ℕ)) → HasWord word value k
+    → HasWord word left (option_map (λ ws. slice_set ws word left) k)
 left_in word left value None has = absurd has
 left_in word left value (Some ws) has =
     let P : ℕ → Type 0 = λ n. word < n in
     (subst P (sym (length-set ws word left)) has.0, get_or-set_same ws word left 0 has.0)
 
-other_in : (word left other value : ℕ) → other ≢ word → (k : Option (List ℕ)) → HasWord other value k → HasWord other value (option_map (λ ws. slice_set ws word left) k)
+other_in : (word left other value : ℕ) → other ≢ word → (k : Option (List ℕ)) → HasWord other value k
+    → HasWord other value (option_map (λ ws. slice_set ws word left) k)
 other_in word left other value apart None has = absurd has
 other_in word left other value apart (Some ws) has =
     let P : ℕ → Type 0 = λ n. other < n in
@@ -307,7 +343,8 @@ replicated {A = A} n k a =
 clear_with_key : (m : Mark) (found : ℕ) → m ≡ clear_mark → mark_with_key (key_of found) m ≡ clear_mark
 clear_with_key m found e = ap (mark_with_key (key_of found)) e
 
-key_clear : (header found : ℕ) (v : View) (other : ℕ) → mark_at v header ≡ clear_mark → mark_at v other ≡ clear_mark → mark_at (with_key header found v) other ≡ clear_mark
+key_clear : (header found : ℕ) (v : View) (other : ℕ) → mark_at v header ≡ clear_mark → mark_at v other ≡ clear_mark
+    → mark_at (with_key header found v) other ≡ clear_mark
 unfolding with_key
 key_clear header found v other clear clear_other =
     elim (cases_eq other header) [
@@ -315,8 +352,11 @@ key_clear header found v other clear clear_other =
           elim (cases_lt header (length v.marks)) [
             | inl within ↦
                 ap (λ k. slice_index_or (slice_set v.marks header (mark_with_key (key_of found) (mark_at v header))) k clear_mark) same
-                ∙ (get_or-set_same v.marks header (mark_with_key (key_of found) (mark_at v header)) clear_mark within ∙ clear_with_key (mark_at v header) found clear)
-            | inr past ↦ ap (λ l. slice_index_or l other clear_mark) (set_past v.marks header (mark_with_key (key_of found) (mark_at v header)) past) ∙ clear_other
+                ∙ (get_or-set_same v.marks header (mark_with_key (key_of found) (mark_at v header)) clear_mark within
+                ∙ clear_with_key (mark_at v header) found clear)
+            | inr past ↦
+                let with = mark_with_key (key_of found) (mark_at v header) in
+                ap (λ l. slice_index_or l other clear_mark) (set_past v.marks header with past) ∙ clear_other
           ]
       | inr apart ↦ get_or-set_other v.marks header other (mark_with_key (key_of found) (mark_at v header)) clear_mark apart ∙ clear_other
     ]
@@ -330,7 +370,8 @@ learnt_clear (name.Last header) found v h other = h.marks other
 learnt_clear name.Clock found v h other = h.marks other
 
 -- nothing stays nothing over a look
-pub looked_nothing : (files : Option Files) (g : Geometry) (id : ℕ) (word : WordName) (found : ℕ) (v w : View) → IsMade files g id (Looked word found) v w → HasNothing v → HasNothing w
+pub looked_nothing : (files : Option Files) (g : Geometry) (id : ℕ) (word : WordName) (found : ℕ) (v w : View)
+    → IsMade files g id (Looked word found) v w → HasNothing v → HasNothing w
 unfolding noted
 looked_nothing files g id word found v w m h =
     record {
@@ -339,7 +380,8 @@ looked_nothing files g id word found v w m h =
     }
 
 -- over a grant that was lost
-pub missed_nothing : (files : Option Files) (g : Geometry) (id : ℕ) (word : WordName) (found : ℕ) (v w : View) → IsMade files g id (Missed word found) v w → HasNothing v → HasNothing w
+pub missed_nothing : (files : Option Files) (g : Geometry) (id : ℕ) (word : WordName) (found : ℕ) (v w : View)
+    → IsMade files g id (Missed word found) v w → HasNothing v → HasNothing w
 missed_nothing files g id word found v w m h =
     record {
       marks = λ other. made_mark files g id (Missed word found) v w m other (none-some other) ∙ h.marks other;
@@ -355,21 +397,25 @@ gone_at place v =
     ]
 
 -- a returned block isn't granted any more
-pub returned_gone : (files : Option Files) (g : Geometry) (id : ℕ) (b : Block) (found : ℕ) (v w : View) → IsMade files g id (Returned b found) v w → granted_at w b.place ≡ None
+pub returned_gone : (files : Option Files) (g : Geometry) (id : ℕ) (b : Block) (found : ℕ) (v w : View)
+    → IsMade files g id (Returned b found) v w → granted_at w b.place ≡ None
 unfolding noted
 returned_gone files g id b found v w m = ap (λ u. granted_at u b.place) m.view ∙ (granted_of_step _ _ b.place ∙ gone_at b.place v)
 
 -- over a grant and its return
-pub returned_nothing : (files : Option Files) (g : Geometry) (id id' : ℕ) (b : Block) (seen found : ℕ) (v u w : View) → IsMade files g id (Granted b seen) v u → IsMade files g id' (Returned b found) u w → HasNothing v → HasNothing w
+pub returned_nothing : (files : Option Files) (g : Geometry) (id id' : ℕ) (b : Block) (seen found : ℕ) (v u w : View)
+    → IsMade files g id (Granted b seen) v u → IsMade files g id' (Returned b found) u w → HasNothing v → HasNothing w
 returned_nothing files g id id' b seen found v u w m r h =
     record {
-      marks = λ other. made_mark files g id' (Returned b found) u w r other (none-some other) ∙ (made_mark files g id (Granted b seen) v u m other (none-some other) ∙ h.marks other);
+      marks = λ other. made_mark files g id' (Returned b found) u w r other (none-some other)
+          ∙ (made_mark files g id (Granted b seen) v u m other (none-some other) ∙ h.marks other);
       granted = λ place.
           elim (cases_eq place b.place) [
             | inl same ↦ ap (granted_at w) same ∙ returned_gone files g id' b found u w r
             | inr apart ↦
                 let away : Some b.place ≢ Some place = λ e. apart (let f : place ≡ b.place = cc in f) in
-                made_granted files g id' (Returned b found) u w r place away ∙ (made_granted files g id (Granted b seen) v u m place away ∙ h.granted place)
+                made_granted files g id' (Returned b found) u w r place away
+                ∙ (made_granted files g id (Granted b seen) v u m place away ∙ h.granted place)
           ];
     }
 
@@ -392,16 +438,20 @@ refused_steps files g id header v w held refused =
           )
     ]
 
-pub refused_mark : (files : Option Files) (g : Geometry) (id header : ℕ) (v w : View) (held : Held) → Evicts files g id header v w (Err held) →
+pub refused_mark : (files : Option Files) (g : Geometry) (id header : ℕ) (v w : View) (held : Held)
+    → Evicts files g id header v w (Err held) →
     (other : ℕ) → mark_at w other ≡ mark_at v other
 refused_mark files g id header v w held refused = (refused_steps files g id header v w held refused).0
 
-pub refused_granted : (files : Option Files) (g : Geometry) (id header : ℕ) (v w : View) (held : Held) → Evicts files g id header v w (Err held) →
+pub refused_granted : (files : Option Files) (g : Geometry) (id header : ℕ) (v w : View) (held : Held)
+    → Evicts files g id header v w (Err held) →
     (place : ℕ) → granted_at w place ≡ granted_at v place
 refused_granted files g id header v w held refused = (refused_steps files g id header v w held refused).1
 
 -- what becomes of a header's hold and claim, where they are set
-hold_set : (header : ℕ) (c : Claim) (v : View) → (mark_at (with_mark header (record { hold = (mark_at v header).hold; claim = c }) v) header).hold ≡ (mark_at v header).hold
+hold_set : (header : ℕ) (c : Claim) (v : View)
+    → (mark_at (with_mark header (record { hold = (mark_at v header).hold; claim = c }) v) header).hold
+    ≡ (mark_at v header).hold
 unfolding with_mark
 hold_set header c v =
     let m : Mark = record { hold = (mark_at v header).hold; claim = c } in
@@ -410,17 +460,20 @@ hold_set header c v =
       | inr past ↦ ap (λ l. (slice_index_or l header clear_mark).hold) (set_past v.marks header m past)
     ]
 
-claim_unset : (header : ℕ) (h : Hold) (v : View) → (mark_at (with_mark header (record { hold = h; claim = Unclaimed }) v) header).claim ≡ Unclaimed
+claim_unset : (header : ℕ) (h : Hold) (v : View)
+    → (mark_at (with_mark header (record { hold = h; claim = Unclaimed }) v) header).claim ≡ Unclaimed
 unfolding with_mark
 claim_unset header h v =
     let m : Mark = record { hold = h; claim = Unclaimed } in
     elim (cases_lt header (length v.marks)) [
       | inl within ↦ ap (λ (x : Mark). x.claim) (get_or-set_same v.marks header m clear_mark within)
-      | inr past ↦ ap (λ l. (slice_index_or l header clear_mark).claim) (set_past v.marks header m past) ∙ ap (λ (x : Mark). x.claim) (get_or_past v.marks header clear_mark past)
+      | inr past ↦ ap (λ l. (slice_index_or l header clear_mark).claim) (set_past v.marks header m past)
+          ∙ ap (λ (x : Mark). x.claim) (get_or_past v.marks header clear_mark past)
     ]
 
 -- the seat that evicts a buffer had nothing of its header
-pub begun_clear : (files : Option Files) (g : Geometry) (id header found : ℕ) (v w : View) → IsMade files g id (EvictBegun header found) v w → mark_at v header ≡ clear_mark
+pub begun_clear : (files : Option Files) (g : Geometry) (id header found : ℕ) (v w : View)
+    → IsMade files g id (EvictBegun header found) v w → mark_at v header ≡ clear_mark
 begun_clear files g id header found v w m = m.tells.1
 
 -- and once the header is released it has nothing of it again
@@ -429,31 +482,38 @@ pub released_clear : (files : Option Files) (g : Geometry) (id id' header found 
 unfolding noted
 released_clear files g id id' header found left b v u w m r =
     let begun : (mark_at u header).hold ≡ Free =
-    ap (λ x. (mark_at x header).hold) m.view ∙ (ap (λ (x : Mark). x.hold) (mark_of_step _ _ header) ∙ (hold_set header _ v ∙ ap (λ (x : Mark). x.hold) m.tells.1)) in
+    ap (λ x. (mark_at x header).hold) m.view ∙ (ap (λ (x : Mark). x.hold) (mark_of_step _ _ header) ∙
+    (hold_set header _ v ∙ ap (λ (x : Mark). x.hold) m.tells.1)) in
     let hold : (mark_at w header).hold ≡ Free =
-    ap (λ x. (mark_at x header).hold) r.view ∙ (ap (λ (x : Mark). x.hold) (mark_of_step _ _ header ∙ mark_of_granted b.place _ _ header) ∙ (hold_set header _ u ∙ begun)) in
+    ap (λ x. (mark_at x header).hold) r.view ∙ (ap (λ (x : Mark). x.hold)
+    (mark_of_step _ _ header ∙ mark_of_granted b.place _ _ header) ∙ (hold_set header _ u ∙ begun)) in
     let claim : (mark_at w header).claim ≡ Unclaimed =
-    ap (λ x. (mark_at x header).claim) r.view ∙ (ap (λ (x : Mark). x.claim) (mark_of_step _ _ header ∙ mark_of_granted b.place _ _ header) ∙ claim_unset header _ u) in
+    ap (λ x. (mark_at x header).claim) r.view ∙ (ap (λ (x : Mark). x.claim)
+    (mark_of_step _ _ header ∙ mark_of_granted b.place _ _ header) ∙ claim_unset header _ u) in
     λ k. record { hold = hold k; claim = claim k }
 
 -- a buffer that goes out, with its block given back, leaves what the seat had
 pub out_mark : (files : Option Files) (g : Geometry) (id id' id'' header found left given : ℕ) (b : Block) (v u w x : View) →
-    IsMade files g id (EvictBegun header found) v u → IsMade files g id' (HeaderReleased header b left) u w → IsMade files g id'' (Returned b given) w x →
+    IsMade files g id (EvictBegun header found) v u → IsMade files g id' (HeaderReleased header b left) u w
+    → IsMade files g id'' (Returned b given) w x →
     (other : ℕ) → mark_at x other ≡ mark_at v other
 out_mark files g id id' id'' header found left given b v u w x m r q other =
     let last = made_mark files g id'' (Returned b given) w x q other (none-some other) in
     elim (cases_eq other header) [
       | inl same ↦
           let here : mark_at w other ≡ mark_at v other =
-          ap (mark_at w) same ∙ (released_clear files g id id' header found left b v u w m r ∙ (sym m.tells.1 ∙ ap (mark_at v) (sym same))) in
+          ap (mark_at w) same ∙ (released_clear files g id id' header found left b v u w m r ∙
+          (sym m.tells.1 ∙ ap (mark_at v) (sym same))) in
           last ∙ here
       | inr apart ↦
           let away : Some header ≢ Some other = λ e. apart (let f : other ≡ header = cc in f) in
-          last ∙ (made_mark files g id' (HeaderReleased header b left) u w r other away ∙ made_mark files g id (EvictBegun header found) v u m other away)
+          last ∙ (made_mark files g id' (HeaderReleased header b left) u w r other away
+          ∙ made_mark files g id (EvictBegun header found) v u m other away)
     ]
 
 pub out_granted : (files : Option Files) (g : Geometry) (id id' id'' header found left given : ℕ) (b : Block) (v u w x : View) →
-    IsMade files g id (EvictBegun header found) v u → IsMade files g id' (HeaderReleased header b left) u w → IsMade files g id'' (Returned b given) w x →
+    IsMade files g id (EvictBegun header found) v u → IsMade files g id' (HeaderReleased header b left) u w
+    → IsMade files g id'' (Returned b given) w x →
     (place : ℕ) → granted_at x place ≡ granted_at v place
 out_granted files g id id' id'' header found left given b v u w x m r q place =
     let first = made_granted files g id (EvictBegun header found) v u m place (none-some place) in
@@ -463,7 +523,8 @@ out_granted files g id id' id'' header found left given b v u w x m r q place =
           ap (granted_at x) same ∙ (returned_gone files g id'' b given w x q ∙ (sym none ∙ first))
       | inr apart ↦
           let away : Some b.place ≢ Some place = λ e. apart (let f : place ≡ b.place = cc in f) in
-          made_granted files g id'' (Returned b given) w x q place away ∙ (made_granted files g id' (HeaderReleased header b left) u w r place away ∙ first)
+          made_granted files g id'' (Returned b given) w x q place away
+          ∙ (made_granted files g id' (HeaderReleased header b left) u w r place away ∙ first)
     ]
 
 -- ---- seats parted and joined
@@ -473,7 +534,10 @@ module _ (count : ℕ) (v : View) where
   pub part_nothing : HasNothing (part_of count v)
   unfolding part_of
   part_nothing =
-      record { marks = λ header. replicated (headers_of v.geometry) header clear_mark; granted = λ place. replicated (places_of v.geometry) place None }
+      record {
+        marks = λ header. replicated (headers_of v.geometry) header clear_mark;
+        granted = λ place. replicated (places_of v.geometry) place None;
+      }
 
   pub part_count : count < length v.numbers → length (part_of count v).numbers ≡ count
   unfolding part_of
@@ -502,7 +566,8 @@ module _ (count : ℕ) (v : View) where
 
 -- and so has one that was joined by another
 module _ (v w : View) where
-  pub joined_keeps : ((joined v w).marks ≡ v.marks) × ((joined v w).granted ≡ v.granted) × ((joined v w).steps ≡ v.steps) × ((joined v w).numbers ≡ v.numbers ++ w.numbers)
+  pub joined_keeps : ((joined v w).marks ≡ v.marks) × ((joined v w).granted ≡ v.granted)
+      × ((joined v w).steps ≡ v.steps) × ((joined v w).numbers ≡ v.numbers ++ w.numbers)
   unfolding joined
   joined_keeps = (refl, refl, refl, refl)
 
@@ -517,25 +582,88 @@ module _ (v w : View) where
 -- ---- tokens
 
 -- a token is still the seat's after a step that has nothing to do with its place or header
-pub grant_stays : {W : Type 0} (pool : Pool W) (old new : PoolSeat W) (grant : Grant) (files : Option Files) (g : Geometry) (id : ℕ) (s : WordStep) → IsMade files g id s (view old) (view new) → IsGrantOf pool old grant → place_of s ≢ Some (block_of grant).place → IsGrantOf pool new grant
+pub grant_stays : {W : Type 0} (pool : Pool W) (old new : PoolSeat W) (grant : Grant) (files : Option Files)
+    (g : Geometry) (id : ℕ) (s : WordStep) → IsMade files g id s (view old) (view new) → IsGrantOf pool old grant
+    → place_of s ≢ Some (block_of grant).place → IsGrantOf pool new grant
 grant_stays pool old new grant files g id s m token apart =
     record { block = token.block; granted = made_granted files g id s (view old) (view new) m (block_of grant).place apart ∙ token.granted }
 
-pub new_stays : {W : Type 0} (pool : Pool W) (old new : PoolSeat W) (token : NewBuffer) (done : ℕ) (files : Option Files) (g : Geometry) (id : ℕ) (s : WordStep) → IsMade files g id s (view old) (view new) → IsNewOf pool old token done → header_of s ≢ Some (new_header token) → IsNewOf pool new token done
+pub new_stays : {W : Type 0} (pool : Pool W) (old new : PoolSeat W) (token : NewBuffer) (done : ℕ)
+    (files : Option Files) (g : Geometry) (id : ℕ) (s : WordStep) → IsMade files g id s (view old) (view new)
+    → IsNewOf pool old token done → header_of s ≢ Some (new_header token) → IsNewOf pool new token done
 new_stays pool old new token done files g id s m h apart =
-    record { header = h.header; block = h.block; key = h.key; fits = h.fits; claim = ap (λ (x : Mark). x.claim) (made_mark files g id s (view old) (view new) m (new_header token) apart) ∙ h.claim }
+    let kept = made_mark files g id s (view old) (view new) m (new_header token) apart in
+    record {
+      header = h.header;
+      block = h.block;
+      key = h.key;
+      fits = h.fits;
+      claim = ap (λ (x : Mark). x.claim) kept ∙ h.claim;
+    }
 
-pub pin_stays : {W : Type 0} (pool : Pool W) (old new : PoolSeat W) (pin : Pin) (files : Option Files) (g : Geometry) (id : ℕ) (s : WordStep) → IsMade files g id s (view old) (view new) → IsPinOf pool old pin → header_of s ≢ Some (pin_header pin) → IsPinOf pool new pin
+pub pin_stays : {W : Type 0} (pool : Pool W) (old new : PoolSeat W) (pin : Pin) (files : Option Files) (g : Geometry)
+    (id : ℕ) (s : WordStep) → IsMade files g id s (view old) (view new) → IsPinOf pool old pin
+    → header_of s ≢ Some (pin_header pin) → IsPinOf pool new pin
 pin_stays pool old new pin files g id s m h apart =
-    record { header = h.header; block = h.block; key = h.key; fits = h.fits; pinned = ap (λ (x : Mark). x.hold) (made_mark files g id s (view old) (view new) m (pin_header pin) apart) ∙ h.pinned }
+    let kept = made_mark files g id s (view old) (view new) m (pin_header pin) apart in
+    record {
+      header = h.header;
+      block = h.block;
+      key = h.key;
+      fits = h.fits;
+      pinned = ap (λ (x : Mark). x.hold) kept ∙ h.pinned;
+    }
 
-pub evicting_stays : {W : Type 0} (pool : Pool W) (old new : PoolSeat W) (token : Evicting) (files : Option Files) (g : Geometry) (id : ℕ) (s : WordStep) → IsMade files g id s (view old) (view new) → IsEvictingOf pool old token → header_of s ≢ Some (evicting_header token) → IsEvictingOf pool new token
+pub evicting_stays : {W : Type 0} (pool : Pool W) (old new : PoolSeat W) (token : Evicting) (files : Option Files)
+    (g : Geometry) (id : ℕ) (s : WordStep) → IsMade files g id s (view old) (view new) → IsEvictingOf pool old token
+    → header_of s ≢ Some (evicting_header token) → IsEvictingOf pool new token
 evicting_stays pool old new token files g id s m h apart =
-    record { header = h.header; block = h.block; claim = ap (λ (x : Mark). x.claim) (made_mark files g id s (view old) (view new) m (evicting_header token) apart) ∙ h.claim }
+    let kept = made_mark files g id s (view old) (view new) m (evicting_header token) apart in
+    record { header = h.header; block = h.block; claim = ap (λ (x : Mark). x.claim) kept ∙ h.claim }
 
 -- a block that a call found free of the seat's own begins where none of the seat's tokens does
-pub apart_from : {W : Type 0} (pool : Pool W) (seat : PoolSeat W) (grant : Grant) (place : ℕ) → IsGrantOf pool seat grant → granted_at (view seat) place ≡ None → (block_of grant).place ≢ place
+pub apart_from : {W : Type 0} (pool : Pool W) (seat : PoolSeat W) (grant : Grant) (place : ℕ)
+    → IsGrantOf pool seat grant → granted_at (view seat) place ≡ None → (block_of grant).place ≢ place
 apart_from pool seat grant place token free same =
     none-some (block_of grant).order (sym free ∙ (ap (granted_at (view seat)) (sym same) ∙ token.granted))
 
-pub ruleset callers = (one_made, all_then, made_trail, made_numbers, made_mark, made_granted, all_trail, all_numbers, all_mark, all_granted, finds_known, knows_left, knows_other, looked_nothing, missed_nothing, returned_gone, returned_nothing, part_nothing, part_count, part_knows, parted_numbers, parted_keeps, parted_knows, parted_nothing, joined_keeps, joined_knows, joined_nothing, grant_stays, new_stays, pin_stays, evicting_stays, refused_mark, refused_granted, begun_clear, released_clear, out_mark, out_granted, apart_from)
+pub ruleset callers = (
+  one_made,
+  all_then,
+  made_trail,
+  made_numbers,
+  made_mark,
+  made_granted,
+  all_trail,
+  all_numbers,
+  all_mark,
+  all_granted,
+  finds_known,
+  knows_left,
+  knows_other,
+  looked_nothing,
+  missed_nothing,
+  returned_gone,
+  returned_nothing,
+  part_nothing,
+  part_count,
+  part_knows,
+  parted_numbers,
+  parted_keeps,
+  parted_knows,
+  parted_nothing,
+  joined_keeps,
+  joined_knows,
+  joined_nothing,
+  grant_stays,
+  new_stays,
+  pin_stays,
+  evicting_stays,
+  refused_mark,
+  refused_granted,
+  begun_clear,
+  released_clear,
+  out_mark,
+  out_granted,
+  apart_from,
+)

@@ -16,5 +16,6 @@ FoundBlocksCanBeGranted =
 -- and so is one of `window`, though not clear
 abbrev pub WindowsAreBlocks : Type 0
 WindowsAreBlocks =
-    (g : Geometry) (arena order offset word movable : ℕ) → arena < g.arenas → order ≤ greatest_order → IsWindow 64 word movable order (Some offset) →
+    (g : Geometry) (arena order offset word movable : ℕ) → arena < g.arenas → order ≤ greatest_order
+    → IsWindow 64 word movable order (Some offset) →
     IsBlockIn g (block_at (64 * arena + offset) order)

@@ -1,5 +1,6 @@
 -- Several steps of a seat in a row, and what each step has to do with.
-use Rattle.std.specs.Prelude.{◌≡◌, ◌≢◌, ℕ, ◌+◌, ◌*◌, ◌/◌, ◌%◌, ◌^◌, max, nat_eq, if◌then◌else◌, drop, slice_index, List, [], ◌∷◌, Option, Some, None, Result, Ok, Err, ◌⊎◌}
+use Rattle.std.specs.Prelude.{◌≡◌, ◌≢◌, ℕ, ◌+◌, ◌*◌, ◌/◌, ◌%◌, ◌^◌, max, nat_eq, if◌then◌else◌, drop}
+use Rattle.std.specs.Prelude.{slice_index, List, [], ◌∷◌, Option, Some, None, Result, Ok, Err, ◌⊎◌}
 use Rattle.std.specs.Int.{from_le_bytes, to_le_bytes, w64}
 use Rattle.buffer_word.specs.declared.key_word.Key.{Key}
 use Rattle.buffer_word.specs.KeyWord.{key_word}
@@ -11,18 +12,30 @@ use Rattle.pool_rule.specs.declared.geometry.WordName.{WordName}
 use Rattle.pool_rule.specs.declared.geometry.WordName.TheVariants as name
 use Rattle.pool_rule.specs.declared.view.View.{View}
 use Rattle.pool_rule.specs.declared.word_step.WordStep.{WordStep}
-use Rattle.pool_rule.specs.declared.word_step.WordStep.TheVariants.{Looked, LookedAtCell, Missed, Granted, Returned, Opened, Named, Filled, Published, Counted, Uncounted, EvictBegun, HeaderReleased, Updated}
+use Rattle.pool_rule.specs.declared.word_step.WordStep.TheVariants.{Looked, LookedAtCell, Missed, Granted, Returned}
+use Rattle.pool_rule.specs.declared.word_step.WordStep.TheVariants.{Opened, Named, Filled, Published, Counted}
+use Rattle.pool_rule.specs.declared.word_step.WordStep.TheVariants.{Uncounted, EvictBegun, HeaderReleased, Updated}
 use Rattle.pool_rule.specs.WordSteps.{IsIdleWord, IsMade, block_in}
 use Rattle.buffer_pool.specs.declared.fault.Held.{Held}
 use Rattle.buffer_pool.specs.declared.fault.NotPinned.{NotPinned}
 use Rattle.buffer_pool.specs.declared.fault.NotPinned.TheVariants.{Busy, Other}
 use Rattle.buffer_pool.specs.declared.token.Evicting.{Evicting}
-use Rattle.buffer_pool.specs.Pools.{evicting_block}
+use Rattle.buffer_pool.specs.declared.pool.Pool.{Pool}
+use Rattle.buffer_pool.specs.declared.seat.PoolSeat.{PoolSeat}
+use Rattle.buffer_pool.specs.Pools.{evicting_block, seat_id, sizes_of, view}
 
 -- the seat made these steps, one after the other, and no others
 abbrev pub AreMade : Option Files → Geometry → ℕ → List WordStep → View → View → Type 0
 AreMade files g id [] old new = new ≡ old
 AreMade files g id (s ∷ ss) old new = (mid : View) × IsMade files g id s old mid × AreMade files g id ss mid new
+
+-- the seat of a pool made this step
+abbrev pub Makes : {W : Type 0} → Option Files → Pool W → PoolSeat W → PoolSeat W → WordStep → Type 0
+Makes files pool old new s = IsMade files (sizes_of pool) (seat_id old) s (view old) (view new)
+
+-- and these, one after the other
+abbrev pub MakesAll : {W : Type 0} → Option Files → Pool W → PoolSeat W → PoolSeat W → List WordStep → Type 0
+MakesAll files pool old new ss = AreMade files (sizes_of pool) (seat_id old) ss (view old) (view new)
 
 -- ---- what a step has to do with
 

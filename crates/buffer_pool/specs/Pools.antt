@@ -80,7 +80,8 @@ IsContentOf files key bytes = (file : List ℕ) → told_bytes files key.file �
 
 -- where files are told, the bytes are those of the key's file from a place in the range on
 abbrev pub AreBytesOf : Option Files → Key → ℕ → ℕ → List ℕ → Type 0
-AreBytesOf files key at len bytes = (file : List ℕ) → told_bytes files key.file ≡ Some file → bytes ≡ slice_range file (key.at + at) (key.at + at + len)
+AreBytesOf files key at len bytes = (file : List ℕ) → told_bytes files key.file ≡ Some file
+    → bytes ≡ slice_range file (key.at + at) (key.at + at + len)
 
 abbrev pub new_header : NewBuffer → ℕ
 new_header new = new.header

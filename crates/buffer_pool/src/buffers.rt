@@ -8,9 +8,10 @@ ghost use Rattle.pool_rule.specs.declared.view.Claim.TheVariants.{Fresh};
 ghost use Rattle.pool_rule.specs.declared.word_step.WordStep.TheVariants.{Missed, Named, Opened, Published};
 ghost use Rattle.pool_rule.specs.Layout.{headers_of};
 ghost use Rattle.pool_rule.specs.Seats.{mark_at};
-ghost use Rattle.pool_rule.specs.WordSteps.{IsMade};
-ghost use Rattle.buffer_pool.specs.Made.{AreMade, cell_in, fill_steps};
-ghost use Rattle.buffer_pool.specs.Pools.{HoldsKey, IsContentOf, IsGrantOf, IsNewOf, IsPinOf, IsSameSeat, IsSeatOf, block_of, buffer_key, new_block, new_header, new_key, pin_block, pin_header, pin_key, seat_id, sizes_of, view};
+ghost use Rattle.buffer_pool.specs.Made.{Makes, MakesAll, cell_in, fill_steps};
+ghost use Rattle.buffer_pool.specs.Pools.{HoldsKey, IsContentOf, IsGrantOf, IsNewOf, IsPinOf, IsSameSeat};
+ghost use Rattle.buffer_pool.specs.Pools.{IsSeatOf, block_of, buffer_key, new_block, new_header, new_key};
+ghost use Rattle.buffer_pool.specs.Pools.{pin_block, pin_header, pin_key, sizes_of, view};
 
 use crate::cells::fill_cells;
 use crate::{Grant, Lost, NewBuffer, Pin, Pool, PoolSeat};
@@ -51,9 +52,10 @@ pub fn open_header<W: World>(
     ensures seat { IsSameSeat pool.now seat.old seat.new }
     ensures is { IfOk result (λ n. (new_header n ≡ header) × (new_key n ≡ key) × (new_block n ≡ block_of grant)) }
     ensures token { IfOk result (λ n. IsNewOf pool.now seat.new n 0) }
-    ensures ok { OnOk result ((cells : List ℕ) × (found : ℕ) × AreMade W.files (sizes_of pool.now) (seat_id seat.old) (Opened header (block_of grant) cells ∷ Named header (block_of grant) (buffer_key key) found ∷ []) (view seat.old) (view seat.new)) }
+    ensures ok { OnOk result ((cells : List ℕ) × (found : ℕ) × MakesAll W.files pool.now seat.old seat.new
+        (Opened header (block_of grant) cells ∷ Named header (block_of grant) (buffer_key key) found ∷ [])) }
     ensures saw { IfErr result (λ e. e.saw ≢ 8) }
-    ensures err { IfErr result (λ e. IsMade W.files (sizes_of pool.now) (seat_id seat.old) (Missed (State header) e.saw) (view seat.old) (view seat.new)) }
+    ensures err { IfErr result (λ e. Makes W.files pool.now seat.old seat.new (Missed (State header) e.saw)) }
     ensures kept { IfErr result (λ e. (block_of e.grant ≡ block_of grant) × IsGrantOf pool.now seat.new e.grant) }
 {
     let Grant { block } = grant;
@@ -82,7 +84,9 @@ pub fn fill<W: World>(pool: &Pool<W>, seat: &mut PoolSeat<W>, new: &mut NewBuffe
     ensures seat { IsSameSeat pool.now seat.old seat.new }
     ensures same { new.new ≡ new.old }
     ensures token { IsNewOf pool.now seat.new new.new (cells_of (buffer_key (new_key new.old))) }
-    ensures made { (found : List ℕ) × (length found ≡ cells_of (buffer_key (new_key new.old))) × AreMade W.files (sizes_of pool.now) (seat_id seat.old) (fill_steps (new_header new.old) (new_block new.old) (buffer_key (new_key new.old)) (cell_in bytes.now) 0 found) (view seat.old) (view seat.new) }
+    ensures made { (found : List ℕ) × (length found ≡ cells_of (buffer_key (new_key new.old)))
+        × MakesAll W.files pool.now seat.old seat.new
+        (fill_steps (new_header new.old) (new_block new.old) (buffer_key (new_key new.old)) (cell_in bytes.now) 0 found) }
 {
     let key = as_buffer_key(new.key);
     fill_cells(
@@ -102,7 +106,8 @@ pub fn publish<W: World>(pool: &Pool<W>, seat: &mut PoolSeat<W>, new: NewBuffer)
     ensures seat { IsSameSeat pool.now seat.old seat.new }
     ensures is { (pin_header result ≡ new_header new) × (pin_key result ≡ new_key new) × (pin_block result ≡ new_block new) }
     ensures token { IsPinOf pool.now seat.new result }
-    ensures made { (found : ℕ) × IsMade W.files (sizes_of pool.now) (seat_id seat.old) (Published (new_header new) (new_block new) (buffer_key (new_key new)) found) (view seat.old) (view seat.new) }
+    ensures made { (found : ℕ) × Makes W.files pool.now seat.old seat.new
+        (Published (new_header new) (new_block new) (buffer_key (new_key new)) found) }
 {
     let NewBuffer { header, block, key } = new;
     pool.words

@@ -6,7 +6,7 @@ ghost use Rattle.pool_rule.specs.declared.geometry.WordName.TheVariants.{Arena};
 ghost use Rattle.pool_rule.specs.declared.word_step.WordStep.TheVariants.{Granted, Looked, Missed, Returned};
 ghost use Rattle.pool_rule.specs.Layout.{IsWord};
 ghost use Rattle.pool_rule.specs.Seats.{HasNothing, joined, part_of, parted};
-ghost use Rattle.pool_rule.specs.WordSteps.{IsMade};
+ghost use Rattle.buffer_pool.specs.Made.{Makes};
 ghost use Rattle.buffer_pool.specs.Pools.{IsBlockOf, IsGrantOf, IsSameSeat, IsSeatOf, block_at, block_of, seat_id, sizes_of, view};
 
 use crate::{Grant, LostGrant, Pool, PoolSeat, WordName};
@@ -21,7 +21,7 @@ pub fn look<W: World>(pool: &Pool<W>, seat: &mut PoolSeat<W>, word: WordName) ->
     requires seat { IsSeatOf pool.now seat.old }
     requires word { IsWord (sizes_of pool.now) word }
     ensures seat { IsSameSeat pool.now seat.old seat.new }
-    ensures made { IsMade W.files (sizes_of pool.now) (seat_id seat.old) (Looked word result) (view seat.old) (view seat.new) }
+    ensures made { Makes W.files pool.now seat.old seat.new (Looked word result) }
 {
     pool.words.look(&mut seat.seat, word)
 }
@@ -45,9 +45,9 @@ pub fn grant<W: World>(
     ensures seat { IsSameSeat pool.now seat.old seat.new }
     ensures block { IfOk result (λ g. block_of g ≡ block_at place order) }
     ensures token { IfOk result (λ g. IsGrantOf pool.now seat.new g) }
-    ensures ok { OnOk result (IsMade W.files (sizes_of pool.now) (seat_id seat.old) (Granted (block_at place order) seen) (view seat.old) (view seat.new)) }
+    ensures ok { OnOk result (Makes W.files pool.now seat.old seat.new (Granted (block_at place order) seen)) }
     ensures saw { IfErr result (λ e. e.saw ≢ seen) }
-    ensures err { IfErr result (λ e. IsMade W.files (sizes_of pool.now) (seat_id seat.old) (Missed (Arena (place / 64)) e.saw) (view seat.old) (view seat.new)) }
+    ensures err { IfErr result (λ e. Makes W.files pool.now seat.old seat.new (Missed (Arena (place / 64)) e.saw)) }
 {
     let block = Block { place, order };
     match pool.words.take_block(&mut seat.seat, block, seen) {
@@ -61,7 +61,7 @@ pub fn ungrant<W: World>(pool: &Pool<W>, seat: &mut PoolSeat<W>, grant: Grant)
     requires seat { IsSeatOf pool.now seat.old }
     requires token { IsGrantOf pool.now seat.old grant }
     ensures seat { IsSameSeat pool.now seat.old seat.new }
-    ensures made { (found : ℕ) × IsMade W.files (sizes_of pool.now) (seat_id seat.old) (Returned (block_of grant) found) (view seat.old) (view seat.new) }
+    ensures made { (found : ℕ) × Makes W.files pool.now seat.old seat.new (Returned (block_of grant) found) }
 {
     let Grant { block } = grant;
     pool.words.give_block(&mut seat.seat, block);

@@ -70,7 +70,9 @@ pub(crate) fn fill_cells<W: World>(
     requires content { IsContentOf W.files key bytes.now }
     ensures seat { IsStill (table_of words.now) (geometry_of words.now) seat.old seat.new }
     ensures claim { (mark_at (view seat.new) header).claim ≡ Fresh block (Some key) (cells_of key) }
-    ensures made { (found : List ℕ) × (length found ≡ cells_of key) × AreMade W.files (geometry_of words.now) seat.old.id (fill_steps header block key (cell_in bytes.now) 0 found) (view seat.old) (view seat.new) }
+    ensures made { (found : List ℕ) × (length found ≡ cells_of key)
+        × AreMade W.files (geometry_of words.now) seat.old.id (fill_steps header block key (cell_in bytes.now) 0 found)
+        (view seat.old) (view seat.new) }
 {
     let cells = (key.len + 7) / 8;
     for done in 0..cells {

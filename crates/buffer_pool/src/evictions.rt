@@ -3,8 +3,7 @@
 ghost use Rattle.std.specs.Prelude.{◌≡◌, ◌<◌, ℕ, IfOk};
 ghost use Rattle.pool_rule.specs.declared.word_step.WordStep.TheVariants.{HeaderReleased};
 ghost use Rattle.pool_rule.specs.Layout.{headers_of};
-ghost use Rattle.pool_rule.specs.WordSteps.{IsMade};
-ghost use Rattle.buffer_pool.specs.Made.{Evicts};
+ghost use Rattle.buffer_pool.specs.Made.{Evicts, Makes};
 ghost use Rattle.buffer_pool.specs.Pools.{IsEvictingOf, IsGrantOf, IsSameSeat, IsSeatOf, block_of, evicting_block, evicting_header};
 ghost use Rattle.buffer_pool.specs.Pools.{seat_id, sizes_of, view};
 
@@ -55,7 +54,7 @@ pub fn release<W: World>(pool: &Pool<W>, seat: &mut PoolSeat<W>, evicting: Evict
     ensures block { block_of result ≡ evicting_block evicting }
     ensures token { IsGrantOf pool.now seat.new result }
     ensures made { let step = HeaderReleased (evicting_header evicting) (evicting_block evicting) in
-        (found : ℕ) × IsMade W.files (sizes_of pool.now) (seat_id seat.old) (step found) (view seat.old) (view seat.new) }
+        (found : ℕ) × Makes W.files pool.now seat.old seat.new (step found) }
 {
     let Evicting { header, block } = evicting;
     pool.words.release(&mut seat.seat, header, block);

@@ -6,8 +6,8 @@ ghost use Rattle.pool_rule.specs.declared.view.Hold.TheVariants.{Free};
 ghost use Rattle.pool_rule.specs.declared.word_step.WordStep.TheVariants.{Uncounted};
 ghost use Rattle.pool_rule.specs.Layout.{headers_of};
 ghost use Rattle.pool_rule.specs.Seats.{mark_at};
-ghost use Rattle.pool_rule.specs.WordSteps.{IsMade, block_in};
-ghost use Rattle.buffer_pool.specs.Made.{Pins};
+ghost use Rattle.pool_rule.specs.WordSteps.{block_in};
+ghost use Rattle.buffer_pool.specs.Made.{Makes, Pins};
 ghost use Rattle.buffer_pool.specs.Pools.{IsPinOf, IsSameSeat, IsSeatOf, pin_header, pin_key, seat_id, sizes_of, view};
 
 use crate::{NotPinned, Pin, Pool, PoolSeat, WordName};
@@ -69,7 +69,7 @@ pub fn unpin<W: World>(pool: &Pool<W>, seat: &mut PoolSeat<W>, pin: Pin)
     requires seat { IsSeatOf pool.now seat.old }
     requires token { IsPinOf pool.now seat.old pin }
     ensures seat { IsSameSeat pool.now seat.old seat.new }
-    ensures made { (found : ℕ) × IsMade W.files (sizes_of pool.now) (seat_id seat.old) (Uncounted (pin_header pin) found) (view seat.old) (view seat.new) }
+    ensures made { (found : ℕ) × Makes W.files pool.now seat.old seat.new (Uncounted (pin_header pin) found) }
 {
     let Pin {
         header: held,

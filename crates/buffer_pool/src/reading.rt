@@ -24,7 +24,8 @@ use pool_rule::{TableSeat, Words};
 fn put_part(into: &mut [u8], skip: usize, number: usize, value: u64)
     requires { (skip < 8) × (number < 2 ^ 32) }
     ensures len { length into.new ≡ length into.old }
-    ensures put { (i : ℕ) → i < length into.old → 8 * number ≤ skip + i → skip + i < 8 * number + 8 → slice_index into.new i ≡ slice_index (to_le_bytes w64 value) (skip + i - 8 * number) }
+    ensures put { (i : ℕ) → i < length into.old → 8 * number ≤ skip + i → skip + i < 8 * number + 8 →
+        slice_index into.new i ≡ slice_index (to_le_bytes w64 value) (skip + i - 8 * number) }
     ensures left { (i : ℕ) → i < length into.old → skip + i < 8 * number → slice_index into.new i ≡ slice_index into.old i }
 {
     let bytes = value.to_le_bytes();
@@ -50,7 +51,8 @@ fn put_whole(into: &mut [u8], at: usize, value: u64)
 fn put_cell(into: &mut [u8], skip: usize, number: usize, value: u64)
     requires { (skip < 8) × (number < 2 ^ 32) }
     ensures len { length into.new ≡ length into.old }
-    ensures put { (i : ℕ) → i < length into.old → 8 * number ≤ skip + i → skip + i < 8 * number + 8 → slice_index into.new i ≡ slice_index (to_le_bytes w64 value) (skip + i - 8 * number) }
+    ensures put { (i : ℕ) → i < length into.old → 8 * number ≤ skip + i → skip + i < 8 * number + 8 →
+        slice_index into.new i ≡ slice_index (to_le_bytes w64 value) (skip + i - 8 * number) }
     ensures left { (i : ℕ) → i < length into.old → skip + i < 8 * number → slice_index into.new i ≡ slice_index into.old i }
 {
     let first = 8 * number;
@@ -92,7 +94,12 @@ fn read_cells<W: World>(
     requires range { at + length into.old ≤ key.len }
     ensures seat { IsStill (table_of words.now) (geometry_of words.now) seat.old seat.new }
     ensures len { length into.new ≡ length into.old }
-    ensures made { (found : List ℕ) × (length found ≡ cells_touched (at % 8) (length into.old)) × AreMade W.files (geometry_of words.now) seat.old.id (load_steps (block.place * block_cells (geometry_of words.now) + at / 8) found) (table.view seat.old) (table.view seat.new) × ((i : ℕ) → i < length into.old → slice_index into.new i ≡ byte_of found (at % 8 + i)) × ((j : ℕ) → j < length found → IsCell W.files key (at / 8 + j) (slice_index found j) × IsRange W.files key) }
+    ensures made { (found : List ℕ) × (length found ≡ cells_touched (at % 8) (length into.old))
+        × AreMade W.files (geometry_of words.now) seat.old.id
+        (load_steps (block.place * block_cells (geometry_of words.now) + at / 8) found)
+        (table.view seat.old) (table.view seat.new)
+        × ((i : ℕ) → i < length into.old → slice_index into.new i ≡ byte_of found (at % 8 + i))
+        × ((j : ℕ) → j < length found → IsCell W.files key (at / 8 + j) (slice_index found j) × IsRange W.files key) }
     ensures pinned { (mark_at (table.view seat.new) header).hold ≡ Pinned block (Some key) }
 {
     let _pin = (header, key);
@@ -116,7 +123,8 @@ pub fn read<W: World>(pool: &Pool<W>, seat: &mut PoolSeat<W>, pin: &Pin, at: u32
     ensures seat { IsSameSeat pool.now seat.old seat.new }
     ensures token { IsPinOf pool.now seat.new pin.now }
     ensures len { length into.new ≡ length into.old }
-    ensures made { (found : List ℕ) × AreRead W.files pool.now (seat_id seat.old) pin.now at into.new found (view seat.old) (view seat.new) }
+    ensures made { (found : List ℕ) × AreRead W.files pool.now (seat_id seat.old) pin.now at into.new found
+        (view seat.old) (view seat.new) }
     ensures content { AreBytesOf W.files (pin_key pin.now) at (length into.old) into.new }
 {
     let key = as_buffer_key(pin.key);

@@ -4,8 +4,7 @@ ghost use Rattle.std.specs.Prelude.{◌≡◌, ◌+◌, ◌%◌, ◌^◌, ◌<�
 ghost use Rattle.pool_rule.specs.declared.geometry.WordName.TheVariants.{Clock, Touches};
 ghost use Rattle.pool_rule.specs.declared.word_step.WordStep.TheVariants.{Updated};
 ghost use Rattle.pool_rule.specs.Layout.{headers_of};
-ghost use Rattle.pool_rule.specs.WordSteps.{IsMade};
-ghost use Rattle.buffer_pool.specs.Made.{AreMade, touch_steps};
+ghost use Rattle.buffer_pool.specs.Made.{Makes, MakesAll, touch_steps};
 ghost use Rattle.buffer_pool.specs.Pools.{IsSameSeat, IsSeatOf, seat_id, sizes_of, view};
 
 use crate::{Pool, PoolSeat, WordName};
@@ -16,7 +15,7 @@ pub fn tick<W: World>(pool: &Pool<W>, seat: &mut PoolSeat<W>) -> u64
     requires seat { IsSeatOf pool.now seat.old }
     ensures seat { IsSameSeat pool.now seat.old seat.new }
     ensures made { (found : ℕ) × (result ≡ (found + 1) % 2 ^ 64)
-        × IsMade W.files (sizes_of pool.now) (seat_id seat.old) (Updated Clock found result) (view seat.old) (view seat.new) }
+        × Makes W.files pool.now seat.old seat.new (Updated Clock found result) }
 {
     pool.words
         .increase(&mut seat.seat, WordName::Clock)
@@ -30,7 +29,7 @@ pub fn touch<W: World>(pool: &Pool<W>, seat: &mut PoolSeat<W>, header: u32, tick
     requires header { header < headers_of (sizes_of pool.now) }
     ensures seat { IsSameSeat pool.now seat.old seat.new }
     ensures made { (touches last : ℕ)
-        × AreMade W.files (sizes_of pool.now) (seat_id seat.old) (touch_steps header tick touches last) (view seat.old) (view seat.new) }
+        × MakesAll W.files pool.now seat.old seat.new (touch_steps header tick touches last) }
 {
     pool.words
         .increase(&mut seat.seat, WordName::Touches(header));
@@ -44,7 +43,7 @@ pub fn take_touches<W: World>(pool: &Pool<W>, seat: &mut PoolSeat<W>, header: u3
     requires header { header < headers_of (sizes_of pool.now) }
     ensures seat { IsSameSeat pool.now seat.old seat.new }
     ensures made { let step = Updated (Touches header) result 0 in
-        IsMade W.files (sizes_of pool.now) (seat_id seat.old) step (view seat.old) (view seat.new) }
+        Makes W.files pool.now seat.old seat.new step }
 {
     pool.words.clear(&mut seat.seat, WordName::Touches(header))
 }

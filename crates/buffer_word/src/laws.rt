@@ -3,7 +3,8 @@
 //! No function here does anything: each contract is a law, for all counts, orders and places that fit. The
 //! sums wrap at 64 bits, as those of an atomic word do. A law says too that no field runs into the next one.
 
-ghost use Rattle.buffer_word.specs.Changes.{ReleasedIsEight, OpenedWord, PublishAdds15, BidAdds16, TakeBackSubtracts16, EvictAdds4, MoveAdds2, CancelSubtracts2, WordTellsState, WordTellsKey};
+ghost use Rattle.buffer_word.specs.Changes.{ReleasedIsEight, OpenedWord, PublishAdds15, BidAdds16, TakeBackSubtracts16};
+ghost use Rattle.buffer_word.specs.Changes.{EvictAdds4, MoveAdds2, CancelSubtracts2, WordTellsState, WordTellsKey};
 
 /// The word of a released header without a count is 8.
 pub fn released_is_eight()

@@ -1,5 +1,6 @@
 -- One buffer: what each step on it needs, and what it gives. Source: this project's own.
-use Rattle.std.specs.Prelude.{◌≡◌, ◌==◌, ℕ, ◌+◌, ◌<◌, ◌≤◌, not, IsTrue, List, [], ◌∷◌, ◌++◌, length, filter, None, Some, IsSomeAnd, option_map, slice_index, slice_set}
+use Rattle.std.specs.Prelude.{◌≡◌, ◌==◌, ℕ, ◌+◌, ◌<◌, ◌≤◌, not, IsTrue, List, [], ◌∷◌, ◌++◌, length}
+use Rattle.std.specs.Prelude.{filter, None, Some, IsSomeAnd, option_map, slice_index, slice_set}
 use Rattle.std.specs.List.{list_any}
 use Rattle.pool_model.specs.declared.block.Block.{Block}
 use Rattle.pool_model.specs.declared.buffer.Buffer.{Buffer}

@@ -1,5 +1,6 @@
 -- What the cells of a key's range hold, in a world whose files are told. Source: this project's own.
-use Rattle.std.specs.Prelude.{◌≡◌, ℕ, ◌+◌, ◌*◌, ◌<◌, ◌≤◌, List, length, Option, None, Some, IsSome, IsSomeAnd, option_map, slice_get, slice_range, slice_index, drop}
+use Rattle.std.specs.Prelude.{◌≡◌, ℕ, ◌+◌, ◌*◌, ◌<◌, ◌≤◌, List, length, Option, None, Some, IsSome}
+use Rattle.std.specs.Prelude.{IsSomeAnd, option_map, slice_get, slice_range, slice_index, drop}
 use Rattle.std.specs.Int.{from_le_bytes, w64}
 use Rattle.pool_model.specs.declared.buffer.BufferKey.{BufferKey}
 use Rattle.pool_model.specs.Block.{cells_for}

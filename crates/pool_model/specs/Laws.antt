@@ -5,7 +5,8 @@ use Rattle.pool_model.specs.declared.buffer.BufferMode.TheVariants.{Live}
 use Rattle.pool_model.specs.declared.pool.PlainPool.{PlainPool}
 use Rattle.pool_model.specs.declared.setting.Setting.{Setting}
 use Rattle.pool_model.specs.declared.step.Step.{Step}
-use Rattle.pool_model.specs.declared.step.Step.TheVariants.{Grant, Ungrant, Open, Name, Fill, Publish, Pin, Unpin, BeginEvict, Release, BeginMove, Copy, Settle, Cancel}
+use Rattle.pool_model.specs.declared.step.Step.TheVariants.{Grant, Ungrant, Open, Name, Fill, Publish, Pin, Unpin}
+use Rattle.pool_model.specs.declared.step.Step.TheVariants.{BeginEvict, Release, BeginMove, Copy, Settle, Cancel}
 use Rattle.pool_model.specs.Block.{Within}
 use Rattle.pool_model.specs.Buffer.{Holds}
 use Rattle.pool_model.specs.Lawful.{IsLawful}
@@ -59,7 +60,8 @@ IsLawfulOnTheWay w (s ∷ ss) p = IsLawful w p × SparesHeld s p × KeepsHeld s 
 -- whatever the setting, the headers, the places and the steps
 abbrev pub EveryRunIsLawful : Type 0
 EveryRunIsLawful =
-    (w : Setting) (headers places : ℕ) (steps : List Step) → IsRun w steps (empty_pool headers places) → IsLawfulOnTheWay w steps (empty_pool headers places)
+    (w : Setting) (headers places : ℕ) (steps : List Step) → IsRun w steps (empty_pool headers places)
+    → IsLawfulOnTheWay w steps (empty_pool headers places)
 
 -- the seat that makes a step
 abbrev pub maker_of : Step → ℕ
@@ -86,9 +88,11 @@ pub record StaysHeldBy (seat : ℕ) (old new : Buffer) : Type 0 where
 -- no step changes a buffer that another seat has for itself, takes another seat's grant away, or ends another seat's
 -- pin, and a buffer that another seat has pinned stays as it is, but for its other holders
 pub record SparesOthers (s : Step) (p : PlainPool) : Type 0 where
-  pub claims : (header seat : ℕ) (b : Buffer) → buffer_at p header ≡ Some b → b.claimant ≡ Some seat → seat ≢ maker_of s → buffer_at (after s p) header ≡ Some b
+  pub claims : (header seat : ℕ) (b : Buffer) → buffer_at p header ≡ Some b → b.claimant ≡ Some seat
+      → seat ≢ maker_of s → buffer_at (after s p) header ≡ Some b
   pub grants : (place : ℕ) (g : GrantedBlock) → grant_at p place ≡ Some g → g.owner ≢ maker_of s → grant_at (after s p) place ≡ Some g
-  pub holds : (header seat : ℕ) (b : Buffer) → buffer_at p header ≡ Some b → Holds seat b.holders → seat ≢ maker_of s → IsSomeAnd (buffer_at (after s p) header) (StaysHeldBy seat b)
+  pub holds : (header seat : ℕ) (b : Buffer) → buffer_at p header ≡ Some b → Holds seat b.holders → seat ≢ maker_of s
+      → IsSomeAnd (buffer_at (after s p) header) (StaysHeldBy seat b)
 
 -- whatever the lawful pool and the step
 abbrev pub OthersAreSpared : Type 0

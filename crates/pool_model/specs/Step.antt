@@ -6,9 +6,12 @@ use Rattle.pool_model.specs.declared.buffer.Target.{Target}
 use Rattle.pool_model.specs.declared.pool.PlainPool.{PlainPool}
 use Rattle.pool_model.specs.declared.setting.Setting.{Setting}
 use Rattle.pool_model.specs.declared.step.Step.{Step}
-use Rattle.pool_model.specs.declared.step.Step.TheVariants.{Grant, Ungrant, Open, Name, Fill, Publish, Pin, Unpin, BeginEvict, Release, BeginMove, Copy, Settle, Cancel}
+use Rattle.pool_model.specs.declared.step.Step.TheVariants.{Grant, Ungrant, Open, Name, Fill, Publish, Pin, Unpin}
+use Rattle.pool_model.specs.declared.step.Step.TheVariants.{BeginEvict, Release, BeginMove, Copy, Settle, Cancel}
 use Rattle.pool_model.specs.Block.{IsBlock, Within}
-use Rattle.pool_model.specs.Buffer.{AreCellsOf, opened, CanName, named, CanFill, filled, CanPublish, published, CanPin, pinned, CanUnpin, unpinned, IsIdle, evicting, CanRelease, CanMove, moving, CanCopy, copied, CanSettle, live_at, CanCancel}
+use Rattle.pool_model.specs.Buffer.{AreCellsOf, opened, CanName, named, CanFill, filled, CanPublish, published}
+use Rattle.pool_model.specs.Buffer.{CanPin, pinned, CanUnpin, unpinned, IsIdle, evicting, CanRelease, CanMove}
+use Rattle.pool_model.specs.Buffer.{moving, CanCopy, copied, CanSettle, live_at, CanCancel}
 use Rattle.pool_model.specs.Pool.{buffer_at, HasGrant, with_buffer, with_grant, without_grant, owners}
 
 -- no block, target or grant has a minimum block of this one

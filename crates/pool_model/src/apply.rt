@@ -5,7 +5,9 @@ use std::alloc::Global;
 
 impl PlainPool {
     ghost use Rattle.std.specs.Prelude.{◌≡◌, ◌≤◌, OnOk, OnErr, Ok, Err};
-    ghost use Rattle.pool_model.specs.declared.step.Step.TheVariants.{Grant, Ungrant, Open, Name, Fill, Publish, Pin, Unpin, BeginEvict, Release, BeginMove, Copy, Settle, Cancel};
+    ghost use Rattle.pool_model.specs.declared.step.Step.TheVariants.{Grant, Ungrant, Open, Name, Fill, Publish};
+    ghost use Rattle.pool_model.specs.declared.step.Step.TheVariants.{Pin, Unpin, BeginEvict, Release, BeginMove};
+    ghost use Rattle.pool_model.specs.declared.step.Step.TheVariants.{Copy, Settle, Cancel};
     ghost use Rattle.pool_model.specs.Lawful.{IsLawful};
     ghost use Rattle.pool_model.specs.Outcome.{Makes, TakesMemory};
     ghost use Rattle.pool_model.specs.Step.{Needs, after};

@@ -20,7 +20,10 @@ impl BufferKey {
 impl Buffer {
     ghost use Rattle.std.specs.Prelude.{◌≡◌, ◌↔◌, ◌+◌, ◌<◌, ◌≤◌, [], IsTrue, IsSome, IfSome, slice_index};
     ghost use Rattle.pool_model.specs.declared.buffer.BufferMode.TheVariants.{New, Live, Moving, Evicted};
-    ghost use Rattle.pool_model.specs.Buffer.{Claimed, Holds, HasNext, IsDone, IsIdle, CanName, named, CanFill, filled, CanPublish, published, CanPin, pinned, CanUnpin, unpinned, evicting, CanMove, moving, CanRelease, CanCopy, copied, CanSettle, CanCancel, opened, live_at};
+    ghost use Rattle.pool_model.specs.Buffer.{Claimed, Holds, HasNext, IsDone, IsIdle, CanName, named, CanFill};
+    ghost use Rattle.pool_model.specs.Buffer.{filled, CanPublish, published, CanPin, pinned, CanUnpin, unpinned};
+    ghost use Rattle.pool_model.specs.Buffer.{evicting, CanMove, moving, CanRelease, CanCopy, copied, CanSettle};
+    ghost use Rattle.pool_model.specs.Buffer.{CanCancel, opened, live_at};
     ghost use Rattle.pool_model.specs.Outcome.{Outcome};
 
     /// A new buffer, which its claimant may name.

@@ -39,7 +39,8 @@ StateWordsUnpack =
     (files : Option Files) (setup : Setup) (words : List ℕ) (views : List View) (log : List Step) (pool : PlainPool) →
     StandsFor files setup words views log pool → IsGeometry setup.geometry → AreSeats setup.seats →
     (header : ℕ) → header < headers_of setup.geometry →
-    (s : State) × IsPackable s × (slice_index words (header_word setup.geometry header) ≡ state_word s) × (s.count ≡ count_of header views) × (s.count ≤ 64)
+    (s : State) × IsPackable s × (slice_index words (header_word setup.geometry header) ≡ state_word s)
+    × (s.count ≡ count_of header views) × (s.count ≤ 64)
 
 -- a bit of an arena's word is clear exactly where no block, target or grant has that minimum block
 abbrev pub ClearBitsAreFree : Type 0
@@ -66,11 +67,13 @@ abbrev pub BuffersAreSaid : Type 0
 BuffersAreSaid =
     (files : Option Files) (setup : Setup) (words : List ℕ) (views : List View) (log : List Step) (pool : PlainPool) →
     StandsFor files setup words views log pool →
-    (header : ℕ) (b : Buffer) → header < headers_of setup.geometry → buffer_at pool header ≡ Some b → IsSaid setup.geometry words views header b
+    (header : ℕ) (b : Buffer) → header < headers_of setup.geometry → buffer_at pool header ≡ Some b
+    → IsSaid setup.geometry words views header b
 
 -- where a step told that there was a pool, and the seat knew the words, they and its view stood for that pool
 abbrev pub KnownWordsStand : Type 0
 KnownWordsStand =
     (files : Option Files) (g : Geometry) (id word found : ℕ) (v : View) (known : List ℕ) →
     Stood files g id word found v → v.known ≡ Some known →
-    (setup : Setup) × (views : List View) × (log : List Step) × (pool : PlainPool) × (setup.geometry ≡ g) × StandsFor files setup known views log pool × (get_elem? views id ≡ some v)
+    (setup : Setup) × (views : List View) × (log : List Step) × (pool : PlainPool) × (setup.geometry ≡ g)
+    × StandsFor files setup known views log pool × (get_elem? views id ≡ some v)

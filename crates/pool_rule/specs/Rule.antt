@@ -1,5 +1,7 @@
 -- The rule of a pool's table: there is a lawful pool for which words and views stand. Source: this project's own.
-use Rattle.std.specs.Prelude.{◌≡◌, ◌==◌, ℕ, zero, suc, ◌+◌, ◌*◌, ◌/◌, ◌%◌, ◌<◌, ◌≤◌, nat_lt, if◌then◌else◌, List, [], ◌∷◌, ◌++◌, length, filter, replicate, Option, None, Some, IfSome, slice_index, slice_index_or}
+use Rattle.std.specs.Prelude.{◌≡◌, ◌==◌, ℕ, zero, suc, ◌+◌, ◌*◌, ◌/◌, ◌%◌, ◌<◌, ◌≤◌, nat_lt}
+use Rattle.std.specs.Prelude.{if◌then◌else◌, List, [], ◌∷◌, ◌++◌, length, filter, replicate}
+use Rattle.std.specs.Prelude.{Option, None, Some, IfSome, slice_index, slice_index_or}
 use Rattle.std.specs.List.{count_by}
 use Rattle.std.specs.Int.{bit_at}
 use Rattle.atomic_table.specs.Table.{State}
@@ -7,7 +9,8 @@ use Rattle.pool_model.specs.declared.pool.GrantedBlock.{GrantedBlock}
 use Rattle.pool_model.specs.declared.pool.PlainPool.{PlainPool}
 use Rattle.pool_model.specs.declared.setting.Setting.{Setting}
 use Rattle.pool_model.specs.declared.step.Step.{Step}
-use Rattle.pool_model.specs.declared.step.Step.TheVariants.{Grant, Ungrant, Open, Name, Fill, Publish, Pin, Unpin, BeginEvict, Release, BeginMove, Copy, Settle, Cancel}
+use Rattle.pool_model.specs.declared.step.Step.TheVariants.{Grant, Ungrant, Open, Name, Fill, Publish, Pin, Unpin}
+use Rattle.pool_model.specs.declared.step.Step.TheVariants.{BeginEvict, Release, BeginMove, Copy, Settle, Cancel}
 use Rattle.pool_model.specs.Content.{Files}
 use Rattle.pool_model.specs.Pool.{total, empty_pool, buffer_at, grant_at, owners}
 use Rattle.pool_model.specs.Step.{IsRun, run}
@@ -116,7 +119,8 @@ StandsForBuffer g words views pool header =
 -- ---- the rule
 
 -- Words and views stand for a pool, which is lawful: `laws::a_pool_is_lawful` says so.
-pub record StandsFor (files : Option Files) (setup : Setup) (words : List ℕ) (views : List View) (log : List Step) (pool : PlainPool) : Type 0 where
+pub record StandsFor (files : Option Files) (setup : Setup) (words : List ℕ) (views : List View) (log : List Step)
+    (pool : PlainPool) : Type 0 where
   pub story : IsStory files setup.geometry (length views) log pool
   pub all_words : length words ≡ word_count setup.geometry
   pub numbers : AreShared setup.seats views

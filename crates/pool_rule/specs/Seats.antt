@@ -1,5 +1,6 @@
 -- What a seat knows and has, and what its steps make of that. Source: this project's own.
-use Rattle.std.specs.Prelude.{◌≡◌, ℕ, ◌+◌, ◌-◌, ◌/◌, ◌%◌, ◌^◌, zero, suc, List, [], ◌∷◌, ◌++◌, length, take, drop, replicate, Option, None, Some, option_map, IfSome, slice_index, slice_index_or, slice_set}
+use Rattle.std.specs.Prelude.{◌≡◌, ℕ, ◌+◌, ◌-◌, ◌/◌, ◌%◌, ◌^◌, zero, suc, List, [], ◌∷◌, ◌++◌, length, take, drop}
+use Rattle.std.specs.Prelude.{replicate, Option, None, Some, option_map, IfSome, slice_index, slice_index_or, slice_set}
 use Rattle.pool_model.specs.declared.buffer.BufferKey.{BufferKey}
 use Rattle.pool_model.specs.declared.step.Step.{Step}
 use Rattle.pool_rule.specs.declared.geometry.Geometry.{Geometry}
@@ -30,11 +31,29 @@ granted_at v place = slice_index_or v.granted place None
 
 -- the view of a seat without numbers
 abbrev pub spent : View
-spent = record { geometry = record { min_block = 0; arenas = 0; sets = 0 }; numbers = []; marks = []; granted = []; known = None; trail = []; steps = [] }
+spent =
+    record {
+      geometry = record { min_block = 0; arenas = 0; sets = 0 };
+      numbers = [];
+      marks = [];
+      granted = [];
+      known = None;
+      trail = [];
+      steps = [];
+    }
 
 -- the view of a seat with these numbers, and nothing else
 abbrev pub fresh_view : Geometry → List ℕ → View
-fresh_view g numbers = record { geometry = g; numbers = numbers; marks = replicate (headers_of g) clear_mark; granted = replicate (places_of g) None; known = None; trail = []; steps = [] }
+fresh_view g numbers =
+    record {
+      geometry = g;
+      numbers = numbers;
+      marks = replicate (headers_of g) clear_mark;
+      granted = replicate (places_of g) None;
+      known = None;
+      trail = [];
+      steps = [];
+    }
 
 -- the numbers from one on, so many of them
 abbrev pub numbers_from : ℕ → ℕ → List ℕ

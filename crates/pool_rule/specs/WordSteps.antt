@@ -1,5 +1,6 @@
 -- The steps on a pool's words, one kind each, and what each makes of the view of the seat that makes it. Source: this project's own.
-use Rattle.std.specs.Prelude.{◌≡◌, ◌≢◌, ℕ, ◌+◌, ◌-◌, ◌*◌, ◌/◌, ◌%◌, ◌^◌, ◌<◌, ◌≤◌, ◌==◌, if◌then◌else◌, List, Option, None, Some, IfSome, bit_and, bit_or, slice_index}
+use Rattle.std.specs.Prelude.{◌≡◌, ◌≢◌, ℕ, ◌+◌, ◌-◌, ◌*◌, ◌/◌, ◌%◌, ◌^◌, ◌<◌, ◌≤◌, ◌==◌, if◌then◌else◌}
+use Rattle.std.specs.Prelude.{List, Option, None, Some, IfSome, bit_and, bit_or, slice_index}
 use Rattle.std.specs.Int.{w64, bit_not}
 use mathlib.Core.Option.{some}
 use lib.ListN.{get_elem?}
@@ -28,7 +29,9 @@ use Rattle.pool_rule.specs.declared.view.Hold.{Hold}
 use Rattle.pool_rule.specs.declared.view.Hold.TheVariants.{Free, Bid, Pinned}
 use Rattle.pool_rule.specs.declared.view.View.{View}
 use Rattle.pool_rule.specs.declared.word_step.WordStep.{WordStep}
-use Rattle.pool_rule.specs.declared.word_step.WordStep.TheVariants.{Looked, LookedAtCell, Missed, Granted, Returned, Opened, Named, Filled, Published, Counted, Uncounted, EvictBegun, HeaderReleased, Updated}
+use Rattle.pool_rule.specs.declared.word_step.WordStep.TheVariants.{Looked, LookedAtCell, Missed, Granted, Returned}
+use Rattle.pool_rule.specs.declared.word_step.WordStep.TheVariants.{Opened, Named, Filled, Published, Counted}
+use Rattle.pool_rule.specs.declared.word_step.WordStep.TheVariants.{Uncounted, EvictBegun, HeaderReleased, Updated}
 use Rattle.pool_rule.specs.Headers.{packed}
 use Rattle.pool_rule.specs.Layout.{AreSeats, IsBlockIn, block_cells, cell_word, header_word, headers_of, index_of}
 use Rattle.pool_rule.specs.Rule.{StandsFor}
@@ -146,7 +149,8 @@ giving id b v = with_step (pool_step.Ungrant id b) (with_granted b.place None v)
 -- a granted block becomes a new buffer of the seat's, which shows these cells
 abbrev pub opening : ℕ → ℕ → Block → List ℕ → View → View
 opening id header b cells v =
-    with_step (pool_step.Open id header b cells) (with_granted b.place None (with_mark header (record { hold = (mark_at v header).hold; claim = Fresh b None 0 }) v))
+    with_step (pool_step.Open id header b cells)
+    (with_granted b.place None (with_mark header (record { hold = (mark_at v header).hold; claim = Fresh b None 0 }) v))
 
 -- a new buffer gets its key, then its cells one by one, and becomes a pin whose key is known
 abbrev pub naming : ℕ → ℕ → Block → BufferKey → View → View
@@ -155,7 +159,8 @@ naming id header b key v =
 
 abbrev pub filling : ℕ → ℕ → Block → BufferKey → ℕ → ℕ → View → View
 filling id header b key done value v =
-    with_step (pool_step.Fill id header value) (with_mark header (record { hold = (mark_at v header).hold; claim = Fresh b (Some key) (done + 1) }) v)
+    with_step (pool_step.Fill id header value)
+    (with_mark header (record { hold = (mark_at v header).hold; claim = Fresh b (Some key) (done + 1) }) v)
 
 abbrev pub publishing : ℕ → ℕ → Block → BufferKey → View → View
 publishing id header b key v =
@@ -164,7 +169,9 @@ publishing id header b key v =
 -- a count is added: a pin of a live buffer, which is a step of the pool, and else a bid
 abbrev pub counting : ℕ → ℕ → ℕ → View → View
 counting id header found v =
-    if found % 16 == 0 then with_step (pool_step.Pin id header) (with_mark header (record { hold = Pinned (block_in found) None; claim = (mark_at v header).claim }) v)
+    if found % 16 == 0
+    then with_step (pool_step.Pin id header)
+    (with_mark header (record { hold = Pinned (block_in found) None; claim = (mark_at v header).claim }) v)
     else with_mark header (record { hold = Bid; claim = (mark_at v header).claim }) v
 
 -- a count is taken back: a bid is gone, or a pin, which is a step of the pool
@@ -209,7 +216,8 @@ made g id s v = noted (word_at g s) (found_by s) (left_by s) (access_of s) (effe
 
 -- At that moment there was a lawful pool of this world for which words and views stood; that was the word, and that the
 -- seat's view. So all that the rule says of them is so: also of known words, which were the words.
-pub record StoodFor (files : Option Files) (g : Geometry) (id word found : ℕ) (v : View) (setup : Setup) (words : List ℕ) (views : List View) (log : List Step) (pool : PlainPool) : Type 0 where
+pub record StoodFor (files : Option Files) (g : Geometry) (id word found : ℕ) (v : View) (setup : Setup)
+    (words : List ℕ) (views : List View) (log : List Step) (pool : PlainPool) : Type 0 where
   pub stands : StandsFor files setup words views log pool
   pub geometry : setup.geometry ≡ g
   pub seats : AreSeats setup.seats
@@ -218,12 +226,14 @@ pub record StoodFor (files : Option Files) (g : Geometry) (id word found : ℕ) 
 
 abbrev pub Stood : Option Files → Geometry → ℕ → ℕ → ℕ → View → Type 0
 Stood files g id word found v =
-    (setup : Setup) × (words : List ℕ) × (views : List View) × (log : List Step) × (pool : PlainPool) × StoodFor files g id word found v setup words views log pool
+    (setup : Setup) × (words : List ℕ) × (views : List View) × (log : List Step) × (pool : PlainPool)
+    × StoodFor files g id word found v setup words views log pool
 
 -- The word is a state's, with a count that seats can reach. Its block is one of the pool's, unless the header is released.
 abbrev pub IsStateWord : Geometry → ℕ → Type 0
 IsStateWord g word =
-    (s : State) × IsPackable s × (word ≡ state_word s) × (s.count ≤ 64) × (s.mode ≢ Released → IsBlockIn g (record { place = s.place; order = s.order }))
+    (s : State) × IsPackable s × (word ≡ state_word s) × (s.count ≤ 64)
+    × (s.mode ≢ Released → IsBlockIn g (record { place = s.place; order = s.order }))
 
 -- the word is that of a key which the block holds, and of the key that is known, if one is
 pub record IsKeyFor (g : Geometry) (b : Block) (known : Option BufferKey) (found : ℕ) : Type 0 where
@@ -257,7 +267,8 @@ TellsWord g name.Clock found v = Unit {0}
 -- where files are told, the key of a pin, if the seat knows it, is a range of its file, and a cell holds that part of it
 abbrev pub TellsCell : Option Files → Geometry → ℕ → ℕ → View → Type 0
 TellsCell files g cell found v =
-    (header : ℕ) (b : Block) (key : BufferKey) (j : ℕ) → header < headers_of g → (mark_at v header).hold ≡ Pinned b (Some key) → j < cells_of key →
+    (header : ℕ) (b : Block) (key : BufferKey) (j : ℕ) → header < headers_of g
+    → (mark_at v header).hold ≡ Pinned b (Some key) → j < cells_of key →
     cell ≡ b.place * block_cells g + j → IsCell files key j found × IsRange files key
 
 -- what a step tells of the word that it found and of the seat's view before

@@ -46,7 +46,8 @@ impl<W: World> Words<W> {
     ) -> u64
         requires seat { seat.old.table_id ≡ table_of self.now }
         requires index { index < (table_of self.now).words }
-        requires allowed { IsAllowed W.files (setup_of self.now) seat.old.id (view seat.old) index (λ n. either (n == expected) word n) C.told }
+        requires allowed { IsAllowed W.files (setup_of self.now) seat.old.id (view seat.old) index
+            (λ n. either (n == expected) word n) C.told }
         ensures seat { IsLeft seat.old seat.new }
         ensures told { C.told result (view seat.old) (view seat.new) }
     {
@@ -133,7 +134,8 @@ impl<W: World> Words<W> {
     ) -> u64
         requires seat { seat.old.table_id ≡ table_of self.now }
         requires index { index < (table_of self.now).words }
-        requires allowed { IsAllowed W.files (setup_of self.now) seat.old.id (view seat.old) index (λ n. (n + (2 ^ 64 - step)) % 2 ^ 64) C.told }
+        requires allowed { IsAllowed W.files (setup_of self.now) seat.old.id (view seat.old) index
+            (λ n. (n + (2 ^ 64 - step)) % 2 ^ 64) C.told }
         ensures seat { IsLeft seat.old seat.new }
         ensures told { C.told result (view seat.old) (view seat.new) }
     {

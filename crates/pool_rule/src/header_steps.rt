@@ -39,8 +39,10 @@ impl<W: World> Words<W> {
         requires block { IsBlockIn (geometry_of self.now) block }
         requires granted { granted_at (view seat.old) block.place ≡ Some block.order }
         ensures seat { IsStill (table_of self.now) (geometry_of self.now) seat.old seat.new }
-        ensures ok { result ≡ 8 → (cells : List ℕ) × IsMade W.files (geometry_of self.now) seat.old.id (Opened header block cells) (view seat.old) (view seat.new) }
-        ensures missed { result ≢ 8 → IsMade W.files (geometry_of self.now) seat.old.id (Missed (State header) result) (view seat.old) (view seat.new) }
+        ensures ok { result ≡ 8 → (cells : List ℕ) ×
+            IsMade W.files (geometry_of self.now) seat.old.id (Opened header block cells) (view seat.old) (view seat.new) }
+        ensures missed { result ≢ 8 →
+            IsMade W.files (geometry_of self.now) seat.old.id (Missed (State header) result) (view seat.old) (view seat.new) }
     {
         pool_model::laws::every_run_is_lawful();
         buffer_word::laws::opened_word();
@@ -58,7 +60,8 @@ impl<W: World> Words<W> {
         requires fits { key.len ≤ bytes_in (geometry_of self.now).min_block block }
         requires range { IsRange W.files key }
         ensures seat { IsStill (table_of self.now) (geometry_of self.now) seat.old seat.new }
-        ensures made { (found : ℕ) × IsMade W.files (geometry_of self.now) seat.old.id (Named header block key found) (view seat.old) (view seat.new) }
+        ensures made { (found : ℕ) ×
+            IsMade W.files (geometry_of self.now) seat.old.id (Named header block key found) (view seat.old) (view seat.new) }
     {
         pool_model::laws::every_run_is_lawful();
         let word = pack_key(Key {
@@ -88,7 +91,8 @@ impl<W: World> Words<W> {
         requires more { done < cells_of key }
         requires cell { IsCell W.files key done value }
         ensures seat { IsStill (table_of self.now) (geometry_of self.now) seat.old seat.new }
-        ensures made { (found : ℕ) × IsMade W.files (geometry_of self.now) seat.old.id (Filled header block key done value found) (view seat.old) (view seat.new) }
+        ensures made { (found : ℕ) ×
+            IsMade W.files (geometry_of self.now) seat.old.id (Filled header block key done value found) (view seat.old) (view seat.new) }
     {
         pool_model::laws::every_run_is_lawful();
         let cell = self.cell_of(block, done);

@@ -31,7 +31,8 @@ impl<W: World> Words<W> {
     pub fn open(alloc: Global, setup: Setup) -> Result<(Words<W>, TableSeat), AllocError>
         requires geometry { IsGeometry setup.geometry }
         requires seats { AreSeats setup.seats }
-        ensures { IfOk result (λ r. (geometry_of r.0 ≡ setup.geometry) × IsSeatAt (table_of r.0) (geometry_of r.0) r.1 × (r.1.id ≡ 0) × (view r.1 ≡ first_view setup)) }
+        ensures { IfOk result (λ r. (geometry_of r.0 ≡ setup.geometry)
+            × IsSeatAt (table_of r.0) (geometry_of r.0) r.1 × (r.1.id ≡ 0) × (view r.1 ≡ first_view setup)) }
     {
         let words = first_words(alloc, setup.geometry)?;
         let (table, seat) = Table::of_words(alloc, words.as_slice(), &setup)?;
@@ -123,7 +124,8 @@ impl<W: World> Words<W> {
         requires clear { IsClear seen (block.place % 64) block.order }
         ensures seat { IsStill (table_of self.now) (geometry_of self.now) seat.old seat.new }
         ensures ok { OnOk result (IsMade W.files (geometry_of self.now) seat.old.id (Granted block seen) (view seat.old) (view seat.new)) }
-        ensures err { IfErr result (λ e. (e.saw ≢ seen) × IsMade W.files (geometry_of self.now) seat.old.id (Missed (Arena (block.place / 64)) e.saw) (view seat.old) (view seat.new)) }
+        ensures err { IfErr result (λ e. (e.saw ≢ seen)
+            × IsMade W.files (geometry_of self.now) seat.old.id (Missed (Arena (block.place / 64)) e.saw) (view seat.old) (view seat.new)) }
     {
         buddy_arena::laws::block_in_arena();
         buddy_arena::laws::covers_in_arena();

@@ -16,6 +16,7 @@ abbrev pub GrantsAgain : Option Files → Geometry → ℕ → ℕ → Block →
 GrantsAgain files g id header b old new =
     (state released given word : ℕ) × IsIdleWord state × (b.order ≡ (block_in state).order) × (b.place / 64 ≡ (block_in state).place / 64)
     × AreMade files g id
-    (Looked (State header) state ∷ EvictBegun header state ∷ HeaderReleased header (block_in state) released ∷ Returned (block_in state) given
+    (Looked (State header) state ∷ EvictBegun header state
+    ∷ HeaderReleased header (block_in state) released ∷ Returned (block_in state) given
     ∷ Looked (Arena ((block_in state).place / 64)) word ∷ Granted b word ∷ [])
     old new

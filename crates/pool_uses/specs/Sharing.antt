@@ -17,7 +17,8 @@ use Rattle.buffer_pool.specs.Pools.{buffer_key}
 -- a grant, the opening of a header with its key, a store for each cell, and the publish
 abbrev pub publish_steps : ℕ → Key → Block → ℕ → List ℕ → List ℕ → ℕ → List ℕ → ℕ → List WordStep
 publish_steps header key b seen bytes cells named filled published =
-    Granted b seen ∷ Opened header b cells ∷ Named header b (buffer_key key) named ∷ (fill_steps header b (buffer_key key) (cell_in bytes) 0 filled ++ Published header b (buffer_key key) published ∷ [])
+    Granted b seen ∷ Opened header b cells ∷ Named header b (buffer_key key) named
+    ∷ (fill_steps header b (buffer_key key) (cell_in bytes) 0 filled ++ Published header b (buffer_key key) published ∷ [])
 
 -- the seat made these steps and no others
 abbrev pub Publishes : Option Files → Geometry → ℕ → ℕ → Key → Block → ℕ → List ℕ → View → View → Type 0
@@ -29,12 +30,14 @@ Publishes files g id header key b seen bytes old new =
 abbrev pub Shares : Option Files → Geometry → ℕ → ℕ → Key → Block → ℕ → List ℕ → View → View → Type 0
 Shares files g id header key b seen bytes old new =
     (cells : List ℕ) × (named : ℕ) × (filled : List ℕ) × (published left : ℕ) × (length filled ≡ cells_of (buffer_key key))
-    × (new.trail ≡ old.trail ++ map (event_of g) (publish_steps header key b seen bytes cells named filled published ++ Uncounted header left ∷ []))
+    × (new.trail ≡ old.trail
+    ++ map (event_of g) (publish_steps header key b seen bytes cells named filled published ++ Uncounted header left ∷ []))
 
 -- a pin, a load of each cell that holds a byte of the range, and the pin's return
 abbrev pub read_steps : Geometry → ℕ → Key → ℕ → ℕ → Block → List ℕ → ℕ → List WordStep
 read_steps g header key at word b found left =
-    Counted header word ∷ Looked (KeyOf header) (key_word key) ∷ (load_steps (b.place * block_cells g + at / 8) found ++ Uncounted header left ∷ [])
+    Counted header word ∷ Looked (KeyOf header) (key_word key)
+    ∷ (load_steps (b.place * block_cells g + at / 8) found ++ Uncounted header left ∷ [])
 
 abbrev pub Reads : Option Files → Geometry → ℕ → ℕ → Key → ℕ → List ℕ → View → View → Type 0
 Reads files g id header key at bytes old new =

@@ -7,7 +7,8 @@ ghost use Rattle.pool_model.specs.Content.{IsRange};
 ghost use Rattle.pool_rule.specs.declared.view.Hold.TheVariants.{Free};
 ghost use Rattle.pool_rule.specs.Layout.{headers_of};
 ghost use Rattle.pool_rule.specs.Seats.{mark_at};
-ghost use Rattle.buffer_pool.specs.Pools.{AreBytesOf, HoldsKey, IsBlockOf, IsContentOf, IsPinOf, IsSameSeat, IsSeatOf, block_at, buffer_key, pin_header, pin_key, seat_id, sizes_of, view};
+ghost use Rattle.buffer_pool.specs.Pools.{AreBytesOf, HoldsKey, IsBlockOf, IsContentOf, IsPinOf, IsSameSeat, IsSeatOf};
+ghost use Rattle.buffer_pool.specs.Pools.{block_at, buffer_key, pin_header, pin_key, seat_id, sizes_of, view};
 ghost use Rattle.pool_uses.specs.Sharing.{Publishes, Reads, Shares};
 
 use buffer_pool::{
@@ -40,7 +41,8 @@ pub fn publish_range<W: World>(
     ensures seat { IsSameSeat pool.now seat.old seat.new }
     ensures is { IfSome result (λ p. (pin_header p ≡ header) × (pin_key p ≡ key)) }
     ensures token { IfSome result (λ p. IsPinOf pool.now seat.new p) }
-    ensures made { OnSome result (Publishes W.files (sizes_of pool.now) (seat_id seat.old) header key (block_at place order) seen bytes.now (view seat.old) (view seat.new)) }
+    ensures made { OnSome result (Publishes W.files (sizes_of pool.now) (seat_id seat.old) header key
+        (block_at place order) seen bytes.now (view seat.old) (view seat.new)) }
 {
     match grant(pool, seat, place, order, seen) {
         Ok(granted) => match open_header(pool, seat, header, key, granted) {
@@ -74,7 +76,8 @@ pub fn read_range<W: World>(
     ensures seat { IsSameSeat pool.now seat.old seat.new }
     ensures len { length into.new ≡ length into.old }
     ensures content { IsTrue result → AreBytesOf W.files key at (length into.old) into.new }
-    ensures made { IsTrue result → Reads W.files (sizes_of pool.now) (seat_id seat.old) header key at into.new (view seat.old) (view seat.new) }
+    ensures made { IsTrue result →
+        Reads W.files (sizes_of pool.now) (seat_id seat.old) header key at into.new (view seat.old) (view seat.new) }
 {
     match pin(pool, seat, header, key) {
         Ok(pin) => {
@@ -115,8 +118,11 @@ pub fn share<W: World>(
     ensures first { IsSameSeat pool.now first.old first.new }
     ensures second { IsSameSeat pool.now second.old second.new }
     ensures content { IsTrue result → AreBytesOf W.files key at (length into.old) into.new }
-    ensures shares { IsTrue result → Shares W.files (sizes_of pool.now) (seat_id first.old) header key (block_at place order) seen bytes.now (view first.old) (view first.new) }
-    ensures reads { IsTrue result → Reads W.files (sizes_of pool.now) (seat_id second.old) header key at into.new (view second.old) (view second.new) }
+    ensures shares { IsTrue result →
+        Shares W.files (sizes_of pool.now) (seat_id first.old) header key (block_at place order) seen bytes.now
+        (view first.old) (view first.new) }
+    ensures reads { IsTrue result →
+        Reads W.files (sizes_of pool.now) (seat_id second.old) header key at into.new (view second.old) (view second.new) }
 {
     match publish_range(pool, first, header, key, place, order, seen, bytes) {
         Some(pin) => {
