@@ -9,11 +9,18 @@ use Rattle.held_ranges.specs.Moments.{Does, Moment, Ran, SameDesk, keys_of}
 use Rattle.cut_streams.specs.Went.{Went}
 
 pub same_desk : {W S : Type 0} (d : Desk W S) → SameDesk d d
-same_desk d = record { cache = refl; seat = refl; store = refl; totals = refl; id = refl }
+same_desk d = record { cache = refl; seat = refl; evictor = refl; store = refl; totals = refl; id = refl }
 
 same_then : {W S : Type 0} (a b c : Desk W S) → SameDesk a b → SameDesk b c → SameDesk a c
 same_then a b c p q =
-    record { cache = q.cache ∙ p.cache; seat = q.seat ∙ p.seat; store = q.store ∙ p.store; totals = q.totals ∙ p.totals; id = q.id ∙ p.id }
+    record {
+      cache = q.cache ∙ p.cache;
+      seat = q.seat ∙ p.seat;
+      evictor = q.evictor ∙ p.evictor;
+      store = q.store ∙ p.store;
+      totals = q.totals ∙ p.totals;
+      id = q.id ∙ p.id;
+    }
 
 module _ (files : Option Files) {W S : Type 0} (reads : S → Option (List FileRange)) where
   does_same : (d : Deed) (m n : Moment W S) → Does files reads d m n → SameDesk m.desk n.desk

@@ -6,7 +6,8 @@ ghost use Rattle.pool_model.specs.Content.{told_bytes};
 ghost use Rattle.buffer_pool.specs.Pools.{sizes_of};
 ghost use Rattle.range_cache.specs.Caches.{pool_of};
 ghost use Rattle.held_ranges.specs.Moments.{DeskHolds, keys_of, moment};
-ghost use Rattle.cut_streams.specs.Streams.{IsOpen, IsReady, IsSoundStream, ReadiesBy, SwapsBy, TakesBy, bytes_in, cursor_of, file_len_of, key_behind, place_in};
+ghost use Rattle.cut_streams.specs.Streams.{IsOpen, IsReady, IsSoundStream, ReadiesBy, SwapsBy, TakesBy};
+ghost use Rattle.cut_streams.specs.Streams.{bytes_in, cursor_of, file_len_of, key_behind, place_in};
 ghost use Rattle.cut_streams.specs.Visits.{IsChunk};
 ghost use Rattle.cut_streams.specs.Went.{Went};
 
@@ -133,6 +134,7 @@ pub fn take_from<W: World, S: Store<W>>(
         → (cursor_of stream.old).range.len ≤ (cursor_of stream.old).taken) }
     ensures cause { HasCause (S.fault_count desk.old.store.now) (S.fault_count desk.new.store.now) result }
     ensures seat_name { desk.new.seat.ghost_name ≡ desk.old.seat.ghost_name }
+    ensures evictor_name { desk.new.evictor.ghost_name ≡ desk.old.evictor.ghost_name }
     ensures store_name { desk.new.store.ghost_name ≡ desk.old.store.ghost_name }
     ensures totals_name { desk.new.totals.ghost_name ≡ desk.old.totals.ghost_name }
     ensures cache { desk.new.cache.now ≡ desk.old.cache.now }

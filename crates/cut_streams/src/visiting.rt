@@ -129,6 +129,7 @@ pub fn visit_cuts<W: World, S: Store<W>>(
         → into.new ≡ slice_range bytes at (at + length into.old)) }
     ensures cause { HasCause (S.fault_count desk.old.store.now) (S.fault_count desk.new.store.now) result }
     ensures seat_name { desk.new.seat.ghost_name ≡ desk.old.seat.ghost_name }
+    ensures evictor_name { desk.new.evictor.ghost_name ≡ desk.old.evictor.ghost_name }
     ensures store_name { desk.new.store.ghost_name ≡ desk.old.store.ghost_name }
     ensures totals_name { desk.new.totals.ghost_name ≡ desk.old.totals.ghost_name }
     ensures cache { desk.new.cache.now ≡ desk.old.cache.now }

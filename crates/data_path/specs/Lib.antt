@@ -1,8 +1,10 @@
 pub mod FaultLine
 pub mod FolderFaults
+pub mod Geometries
 pub mod Headline
 pub mod OwnLine
 pub mod PlanBytes
+pub mod Scanners
 pub mod Statuses
 pub mod StatusCode
 pub mod Steps

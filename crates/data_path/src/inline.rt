@@ -3,11 +3,14 @@ ghost use Rattle.std.specs.Prelude.{◌≡◌, ℕ, IfOk};
 ghost use Rattle.outside.specs.Cause.{Rose};
 ghost use Rattle.pool_rule.specs.declared.view.Hold.TheVariants.{Free};
 ghost use Rattle.pool_rule.specs.Seats.{mark_at};
-ghost use Rattle.buffer_pool.specs.Pools.{IsSeatOf, view};
-ghost use Rattle.range_cache.specs.Caches.{pool_of};
+ghost use Rattle.buffer_pool.specs.Pools.{IsSeatOf, sizes_of, view};
+ghost use Rattle.range_cache.specs.Caches.{half_life_of, pool_of};
+ghost use Rattle.evicting_fetch.specs.Evictors.{IsEvictorOf};
+ghost use Rattle.io_elevator.specs.Scratch.{IsFreshFor};
 ghost use Rattle.fragment_plan.specs.Plan.{plan_of};
 ghost use Rattle.command_line.specs.Options.{AreInRange};
 ghost use Rattle.plan_run.specs.Run.{HasRun};
+ghost use Rattle.data_path.specs.Geometries.{geometry_of};
 ghost use Rattle.data_path.specs.Headline.{Answers, CompletesAlone, Prints};
 
 use crate::cache_scanner::CacheScanner;
@@ -15,7 +18,9 @@ use crate::faulty_plan::fault_line;
 use crate::status::Status;
 use crate::writing::{results_written, written};
 use command_line::Options;
+use evicting_fetch::Evictor;
 use fragment_plan::{Plan, PlanError, read_plan};
+use io_elevator::Scratch;
 use ledgers::CacheTotals;
 use outside::{NoMemory, Sink, Store, World};
 use plan_run::laws::{plans_are_short, quiet_runs_mean_the_plan};
@@ -30,6 +35,8 @@ fn cache_for<W: World>(
     options: &Options,
 ) -> Result<(Cache<W>, PoolSeat<W>), NoMemory>
     requires in_range { AreInRange options.now }
+    ensures sizes { IfOk result (λ r. sizes_of (pool_of r.0) ≡ geometry_of options.now) }
+    ensures half_life { IfOk result (λ r. half_life_of r.0 ≡ options.now.half_life) }
     ensures seat { IfOk result (λ r. IsSeatOf (pool_of r.0) r.1) }
     ensures no_pin { IfOk result (λ r. (header : ℕ) → (mark_at (view r.1) header).hold ≡ Free) }
 {
@@ -45,7 +52,31 @@ fn cache_for<W: World>(
     }
 }
 
-/// Runs a plan over a store that is read through a cache, which it makes before the plan runs and lets go.
+/// Runs a plan over a store that is read through a cache, by a seat of it without pins, in scratch in which nothing is held.
+fn run_through<W: World, S: Store<W>>(
+    alloc: Global,
+    plan: &Plan,
+    cache: &Cache<W>,
+    seat: &mut PoolSeat<W>,
+    evictor: &mut Evictor,
+    last: &mut S,
+    scratch: &mut Scratch<W>,
+) -> Result<Outcomes, NoMemory>
+    requires seat { IsSeatOf (pool_of cache.now) seat.old }
+    requires no_pin { (header : ℕ) → (mark_at (view seat.old) header).hold ≡ Free }
+    requires evictor { IsEvictorOf (pool_of cache.now) evictor.old }
+    requires fresh { IsFreshFor (sizes_of (pool_of cache.now)) scratch.old }
+    ensures seat { IsSeatOf (pool_of cache.now) seat.new }
+    ensures fresh { IsFreshFor (sizes_of (pool_of cache.now)) scratch.new }
+    ensures run { IfOk result (HasRun W.files (S.fault_count last.old) (S.fault_count last.new) plan.now) }
+{
+    let mut totals = CacheTotals::ZERO;
+    let mut scanner = CacheScanner::new(cache, seat, evictor, last, scratch, &mut totals);
+    run_plan(alloc, plan, &mut scanner)
+}
+
+/// Runs a plan over a store that is read through a cache, which it makes before the plan runs and lets go, and with it what decides its
+/// evictions, and scratch for its scans.
 fn run_over<W: World, S: Store<W>>(
     alloc: Global,
     options: &Options,
@@ -59,9 +90,25 @@ fn run_over<W: World, S: Store<W>>(
         Ok(made) => made,
         Err(NoMemory) => return Err(NoMemory),
     };
-    let mut totals = CacheTotals::ZERO;
-    let mut scanner = CacheScanner::new(&cache, &mut seat, last, &mut totals);
-    run_plan(alloc, plan, &mut scanner)
+    let mut evictor = match Evictor::new(alloc, &cache) {
+        Ok(evictor) => evictor,
+        Err(NoMemory) => return Err(NoMemory),
+    };
+    let mut scratch = match Scratch::new(alloc, &cache, &mut seat) {
+        Ok(scratch) => scratch,
+        Err(NoMemory) => return Err(NoMemory),
+    };
+    let outcomes = run_through(
+        alloc,
+        plan,
+        &cache,
+        &mut seat,
+        &mut evictor,
+        last,
+        &mut scratch,
+    );
+    scratch.free(&cache, &mut seat);
+    outcomes
 }
 
 /// Runs a plan's bytes over the files of a world, and writes each fragment's result, by the caller alone.

@@ -4,7 +4,11 @@
 #[cfg(test)]
 mod files;
 #[cfg(test)]
+mod fragments;
+#[cfg(test)]
 mod one_file;
+#[cfg(test)]
+mod ranges;
 #[cfg(test)]
 mod reads;
 #[cfg(test)]

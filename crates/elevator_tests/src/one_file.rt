@@ -73,25 +73,41 @@ pub fn bytes_of(alloc: Global, parts: &[Part]) -> Option<Vec<u8>> {
     hex::decode(alloc, digits.as_str()).ok()
 }
 
-/// What is printed of a plan's first fragment with that outcome.
-pub fn printed(alloc: Global, plan: &Plan, outcome: &Outcome) -> Option<MemorySink> {
-    let mut sink = MemorySink::new(alloc, Vec::new(alloc), 400).ok()?;
-    write_result(plan, 0, outcome, &mut sink).ok()?;
-    Some(sink)
+/// A sink for what is printed of a fragment.
+fn sink(alloc: Global) -> Option<MemorySink> {
+    match MemorySink::new(alloc, Vec::new(alloc), 400) {
+        Ok(sink) => Some(sink),
+        Err(_) => None,
+    }
 }
 
-/// What is printed of a scan of these bytes past the cache, as a plan's first fragment asks it.
-pub fn printed_past(alloc: Global, bytes: &[u8], plan: &Plan) -> Option<MemorySink> {
+/// Whether the outcome of a plan's fragment could be printed to a sink.
+fn is_printed(plan: &Plan, fragment: u32, outcome: &Outcome, sink: &mut MemorySink) -> bool {
+    write_result(plan, fragment, outcome, sink).is_ok()
+}
+
+/// What is printed of a plan's fragment with that outcome.
+pub fn printed(alloc: Global, plan: &Plan, fragment: u32, outcome: &Outcome) -> Option<MemorySink> {
+    let mut sink = sink(alloc)?;
+    if is_printed(plan, fragment, outcome, &mut sink) {
+        Some(sink)
+    } else {
+        None
+    }
+}
+
+/// What is printed of a scan of these bytes past the cache, as a plan's fragment asks it.
+pub fn printed_past(alloc: Global, bytes: &[u8], plan: &Plan, fragment: u32) -> Option<MemorySink> {
     let mut store = OneFile {
         bytes,
         reads: Vec::new(alloc),
         most: usize::MAX,
     };
-    match &plan.fragments().first()?.work {
-        Work::Scan(_) => {
-            let outcome = scan::<RealWorld, _>(alloc, &mut store, plan, 0).ok()?;
-            printed(alloc, plan, &outcome)
-        }
+    match &plan.fragments().get(fragment as usize)?.work {
+        Work::Scan(_) => match scan::<RealWorld, _>(alloc, &mut store, plan, fragment) {
+            Ok(outcome) => printed(alloc, plan, fragment, &outcome),
+            Err(_) => None,
+        },
         Work::Merge(_) => None,
     }
 }

@@ -6,29 +6,43 @@ use Rattle.std.proofs.Math.Seq.{drop-cons}
 use Rattle.buffer_word.specs.declared.key_word.Key.{Key}
 use Rattle.outside.specs.declared.file_ref.FileRange.{FileRange}
 use Rattle.pool_model.specs.Content.{Files}
-use Rattle.buffer_pool.specs.declared.pool.Pool.{Pool}
 use Rattle.buffer_pool.specs.declared.seat.PoolSeat.{PoolSeat}
 use Rattle.buffer_pool.specs.Pools.{IsSeatOf}
 use Rattle.range_cache.specs.declared.cache.Cache.{Cache}
 use Rattle.range_cache.specs.declared.ranged.Ranged.{Ranged}
 use Rattle.range_cache.specs.Caches.{pool_of}
 use Rattle.range_cache.specs.Ranges.{IsRanged, range_key}
+use Rattle.evicting_fetch.specs.declared.evictor.Evictor.{Evictor}
+use Rattle.evicting_fetch.specs.Evictors.{IsEvictorOf}
 use Rattle.held_ranges.specs.declared.desk.Desk.{Desk}
 use Rattle.held_ranges.specs.declared.held.Held.{Held}
 use Rattle.held_ranges.specs.Deeds.{Deed, Keys, gets, drops, dropped, drops_each, key_at, left_of, means, meant, others}
-use Rattle.held_ranges.specs.Moments.{DeskHolds, IsDropped, IsGot, IsHeld, IsHolding, Moment, Ran, Slots, key_of, keys_of, moment, slot_at}
+use Rattle.held_ranges.specs.Moments.{DeskHolds, IsDropped, IsGot, IsHeld, IsHolding, Moment, Ran, SameDesk, Slots, key_of, keys_of, moment, slot_at}
 use Rattle.held_ranges.proofs.Grips.{done_frees, done_others, got_others, got_was}
 use Rattle.held_ranges.proofs.Holding.{drop_holds, key_is, put_holds}
 
 -- the desk with another seat behind its reference
 abbrev pub reseated : {W S : Type 0} → Desk W S → PoolSeat W → Desk W S
-reseated d seat = record { cache = d.cache; seat = record { ref_ptr = d.seat.ref_ptr; ghost_name = d.seat.ghost_name; now = seat }; store = d.store; totals = d.totals }
+reseated d seat =
+    record {
+      cache = d.cache;
+      seat = record { ref_ptr = d.seat.ref_ptr; ghost_name = d.seat.ghost_name; now = seat };
+      evictor = d.evictor;
+      store = d.store;
+      totals = d.totals;
+    }
 
 abbrev pub held_of : Key → Ranged → Held
 held_of key ranged = record { key = key; ranged = ranged }
 
-holds_at : {W : Type 0} (p q : Pool W) (seat : PoolSeat W) (slots : Slots) → q ≡ p → IsHolding p seat slots → IsHolding q seat slots
-holds_at p q seat slots e i = subst (λ (x : Pool _). IsHolding x seat slots) (sym e) i
+-- a desk whose cache is that of a desk before
+holds_at : {W S : Type 0} (d0 d1 : Desk W S) (slots : Slots) → SameDesk d0 d1 → IsHolding (pool_of d0.cache.now) d1.seat.now slots
+    → IsEvictorOf (pool_of d0.cache.now) d1.evictor.now → DeskHolds (moment d1 slots)
+holds_at {W} d0 d1 slots same i e =
+    record {
+      holding = subst (λ (c : Cache W). IsHolding (pool_of c) d1.seat.now slots) (sym same.cache) i;
+      evictor = subst (λ (c : Cache W). IsEvictorOf (pool_of c) d1.evictor.now) (sym same.cache) e;
+    }
 
 -- the keys that slots then hold
 pub got_keys : (key : Key) (ranged : Ranged) (s0 s1 : Slots) (slot : ℕ) → s1 ≡ slice_set s0 slot (Some (held_of key ranged)) → keys_of s1 ≡ slice_set (keys_of s0) slot (Some key)
@@ -42,21 +56,22 @@ pub stays_empty : (slots : Slots) (slot : ℕ) → slot_at slots slot ≡ None �
 stays_empty slots slot e = ap (λ (h : Option Held). slice_set slots slot h) (sym e) ∙ set-get_or slots slot None
 
 module _ (files : Option Files) {W S : Type 0} (reads : S → Option (List FileRange)) where
-  pub get_ok : (key : Key) (ranged : Ranged) (d0 d1 : Desk W S) (seat : PoolSeat W) (s0 s1 : Slots) (slot : ℕ) → DeskHolds (moment d0 s0) → IsGot files reads key ranged d0 d1 → IsSeatOf (pool_of d0.cache.now) d1.seat.now → IsRanged (pool_of d0.cache.now) d1.seat.now ranged × (range_key ranged ≡ key) → slot < length s0 → slot_at s0 slot ≡ None → seat ≡ d1.seat.now → s1 ≡ slice_set s0 slot (Some (held_of key ranged)) → DeskHolds (moment (reseated d1 seat) s1) × Ran files reads (moment d0 s0) (gets slot key ∷ []) (moment (reseated d1 seat) s1)
-  get_ok key ranged d0 d1 seat s0 s1 slot i got of is below empty e f =
+  pub get_ok : (key : Key) (ranged : Ranged) (d0 d1 : Desk W S) (seat : PoolSeat W) (s0 s1 : Slots) (slot : ℕ) → DeskHolds (moment d0 s0) → IsGot files reads key ranged d0 d1 → IsSeatOf (pool_of d0.cache.now) d1.seat.now → IsEvictorOf (pool_of d0.cache.now) d1.evictor.now → IsRanged (pool_of d0.cache.now) d1.seat.now ranged × (range_key ranged ≡ key) → slot < length s0 → slot_at s0 slot ≡ None → seat ≡ d1.seat.now → s1 ≡ slice_set s0 slot (Some (held_of key ranged)) → DeskHolds (moment (reseated d1 seat) s1) × Ran files reads (moment d0 s0) (gets slot key ∷ []) (moment (reseated d1 seat) s1)
+  get_ok key ranged d0 d1 seat s0 s1 slot i got of evicts is below empty e f =
       let P : PoolSeat W × Slots → Type 0 = λ z. DeskHolds (moment (reseated d1 z.0) z.1) × Ran files reads (moment d0 s0) (gets slot key ∷ []) (moment (reseated d1 z.0) z.1) in
       let next : Slots = slice_set s0 slot (Some (held_of key ranged)) in
-      let holds = put_holds (pool_of d0.cache.now) d0.seat.now d1.seat.now s0 slot (Some (held_of key ranged)) i of below empty is (got_others files reads key ranged d0 d1 got) (got_was files reads key ranged d0 d1 got) in
-      let there : DeskHolds (moment d1 next) = holds_at (pool_of d0.cache.now) (pool_of d1.cache.now) d1.seat.now next (ap (λ (c : Cache W). pool_of c) got.same.cache) holds in
+      let holds = put_holds (pool_of d0.cache.now) d0.seat.now d1.seat.now s0 slot (Some (held_of key ranged)) i.holding of below empty is (got_others files reads key ranged d0 d1 got) (got_was files reads key ranged d0 d1 got) in
+      let there : DeskHolds (moment d1 next) = holds_at d0 d1 next got.same holds evicts in
       subst P (λ j. (sym e j, sym f j)) (there, (moment d1 next, (ranged, got, refl), refl))
 
   pub drop_ok : (held : Held) (d0 d1 : Desk W S) (s0 s1 : Slots) (slot : ℕ) → DeskHolds (moment d0 s0) → IsDropped files reads held d0 d1 → IsSeatOf (pool_of d0.cache.now) d1.seat.now → slot < length s0 → slot_at s0 slot ≡ Some held → s1 ≡ slice_set s0 slot None → DeskHolds (moment d1 s1) × Ran files reads (moment d0 s0) (drops slot held.key ∷ []) (moment d1 s1)
   drop_ok held d0 d1 s0 s1 slot i dropped of below was f =
       let P : Slots → Type 0 = λ z. DeskHolds (moment d1 z) × Ran files reads (moment d0 s0) (drops slot held.key ∷ []) (moment d1 z) in
       let next : Slots = slice_set s0 slot None in
-      let mine = subst (λ (x : Option Held). IsHeld (pool_of d0.cache.now) d0.seat.now x) was (i.each slot) in
-      let holds = drop_holds (pool_of d0.cache.now) d0.seat.now d1.seat.now s0 slot (Some held) i of below was (done_others files (pool_of d0.cache.now) d0.seat.now d1.seat.now held.ranged.held dropped.done) (done_frees files (pool_of d0.cache.now) d0.seat.now d1.seat.now held.ranged.held i.seat_of mine.0 dropped.done) in
-      let there : DeskHolds (moment d1 next) = holds_at (pool_of d0.cache.now) (pool_of d1.cache.now) d1.seat.now next (ap (λ (c : Cache W). pool_of c) dropped.same.cache) holds in
+      let mine = subst (λ (x : Option Held). IsHeld (pool_of d0.cache.now) d0.seat.now x) was (i.holding.each slot) in
+      let holds = drop_holds (pool_of d0.cache.now) d0.seat.now d1.seat.now s0 slot (Some held) i.holding of below was (done_others files (pool_of d0.cache.now) d0.seat.now d1.seat.now held.ranged.held dropped.done) (done_frees files (pool_of d0.cache.now) d0.seat.now d1.seat.now held.ranged.held i.holding.seat_of mine.0 dropped.done) in
+      let evicts = subst (λ (v : Evictor). IsEvictorOf (pool_of d0.cache.now) v) (sym dropped.kept) i.evictor in
+      let there : DeskHolds (moment d1 next) = holds_at d0 d1 next dropped.same holds evicts in
       subst P (sym f) (there, (moment d1 next, (held, was, refl, dropped, refl), refl))
 
   -- the same, by the keys

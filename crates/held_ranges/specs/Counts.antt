@@ -18,7 +18,8 @@ GrewBy old new count = (new.filled + new.bypass ≡ old.filled + old.bypass + co
 -- the store's reads gained some ranges, where it tells them afterwards, and fills and bypasses grew by their number
 abbrev pub IsCounted : {W S : Type 0} → (S → Option (List FileRange)) → Moment W S → Moment W S → Type 0
 IsCounted reads m n =
-    (items : List FileRange) × Extended (reads m.desk.store.now) (reads n.desk.store.now) items × GrewBy m.desk.totals.now n.desk.totals.now (length items)
+    (items : List FileRange) × Extended (reads m.desk.store.now) (reads n.desk.store.now) items
+    × GrewBy m.desk.totals.now n.desk.totals.now (length items)
 
 abbrev pub ReadsAreCounted : (W : Type 0) {S : Type 0} → Option Files → (S → Option (List FileRange)) → Type 0
 ReadsAreCounted W {S} files reads = (m n : Moment W S) (deeds : List Deed) → Ran files reads m deeds n → IsCounted reads m n

@@ -1,5 +1,6 @@
 -- Ranges that are got and dropped, each by its slot. Source: this project's own.
-use Rattle.std.specs.Prelude.{◌==◌, ℕ, ◌+◌, Bool, true, false, ◌&&◌, List, [], ◌∷◌, ◌++◌, map, Option, Some, None, if◌then◌else◌, slice_index_or, slice_set}
+use Rattle.std.specs.Prelude.{◌==◌, ℕ, ◌+◌, Bool, true, false, ◌&&◌, if◌then◌else◌, Option, Some, None}
+use Rattle.std.specs.Prelude.{List, [], ◌∷◌, ◌++◌, map, slice_index_or, slice_set}
 use Rattle.buffer_word.specs.declared.key_word.Key.{Key}
 use Rattle.ledgers.specs.declared.cache_totals.How2.{How2}
 use Rattle.ledgers.specs.declared.cache_totals.How2.TheVariants as how2

@@ -15,8 +15,10 @@ use Rattle.range_cache.specs.declared.ranged.How.{How}
 use Rattle.range_cache.specs.declared.ranged.How.TheVariants.{Hit, Filled, Bypass}
 use Rattle.range_cache.specs.declared.ranged.Ranged.{Ranged}
 use Rattle.range_cache.specs.Caches.{pool_of}
-use Rattle.range_cache.specs.Fetches.{FailsToFetch, Fetches, Reads}
+use Rattle.range_cache.specs.Fetches.{Reads}
 use Rattle.range_cache.specs.Ranges.{IsDone, IsRanged, IsReading, range_key}
+use Rattle.evicting_fetch.specs.Evictors.{IsEvictorOf}
+use Rattle.evicting_fetch.specs.Fetches.{FailsToFetch, Fetches}
 use Rattle.held_ranges.specs.declared.desk.Desk.{Desk}
 use Rattle.held_ranges.specs.declared.held.Held.{Held}
 use Rattle.held_ranges.specs.Deeds.{Deed, gets, misses, drops, how_of, Keys}
@@ -55,6 +57,7 @@ key_range key = record { file = key.file; at = key.at; len = key.len }
 pub record SameDesk {W S : Type 0} (old new : Desk W S) : Type 0 where
   pub cache : new.cache.now ≡ old.cache.now
   pub seat : new.seat.ghost_name ≡ old.seat.ghost_name
+  pub evictor : new.evictor.ghost_name ≡ old.evictor.ghost_name
   pub store : new.store.ghost_name ≡ old.store.ghost_name
   pub totals : new.totals.ghost_name ≡ old.totals.ghost_name
   pub id : seat_id new.seat.now ≡ seat_id old.seat.now
@@ -86,6 +89,7 @@ module _ (files : Option Files) {W S : Type 0} (reads : S → Option (List FileR
   pub record IsDropped (held : Held) (old new : Desk W S) : Type 0 where
     pub same : SameDesk old new
     pub done : IsDone files (pool_of old.cache.now) old.seat.now new.seat.now held.ranged
+    pub kept : new.evictor.now ≡ old.evictor.now
     pub unread : new.store.now ≡ old.store.now
     pub uncounted : new.totals.now ≡ old.totals.now
 
@@ -101,10 +105,12 @@ module _ (files : Option Files) {W S : Type 0} (reads : S → Option (List FileR
   -- a deed, at the pool and the store
   abbrev pub Does : Deed → Moment W S → Moment W S → Type 0
   Does (gets slot key) m n =
-      (ranged : Ranged) × IsGot files reads key ranged m.desk n.desk × (n.slots ≡ slice_set m.slots slot (Some (record { key = key; ranged = ranged })))
+      (ranged : Ranged) × IsGot files reads key ranged m.desk n.desk
+      × (n.slots ≡ slice_set m.slots slot (Some (record { key = key; ranged = ranged })))
   Does (misses key) m n = IsMissed files reads key m.desk n.desk × (n.slots ≡ m.slots)
   Does (drops slot key) m n =
-      (held : Held) × (slot_at m.slots slot ≡ Some held) × (held.key ≡ key) × IsDropped files reads held m.desk n.desk × (n.slots ≡ slice_set m.slots slot None)
+      (held : Held) × (slot_at m.slots slot ≡ Some held) × (held.key ≡ key) × IsDropped files reads held m.desk n.desk
+      × (n.slots ≡ slice_set m.slots slot None)
 
   -- deeds, one after the other
   abbrev pub Ran : Moment W S → List Deed → Moment W S → Type 0
@@ -123,7 +129,10 @@ pub record IsHolding {W : Type 0} (pool : Pool W) (seat : PoolSeat W) (slots : S
   pub seat_of : IsSeatOf pool seat
   pub each : (slot : ℕ) → IsHeld pool seat (slot_at slots slot)
   pub only : (header : ℕ) → ((slot : ℕ) → held_header (slot_at slots slot) ≢ Some header) → (mark_at (view seat) header).hold ≡ Free
-  pub apart : (slot other header : ℕ) → held_header (slot_at slots slot) ≡ Some header → held_header (slot_at slots other) ≡ Some header → slot ≡ other
+  pub apart : (slot other header : ℕ) → held_header (slot_at slots slot) ≡ Some header → held_header (slot_at slots other) ≡ Some header
+      → slot ≡ other
 
-abbrev pub DeskHolds : {W S : Type 0} → Moment W S → Type 0
-DeskHolds m = IsHolding (pool_of m.desk.cache.now) m.desk.seat.now m.slots
+-- so is the desk's, and its evictor is one of the cache's
+pub record DeskHolds {W S : Type 0} (m : Moment W S) : Type 0 where
+  pub holding : IsHolding (pool_of m.desk.cache.now) m.desk.seat.now m.slots
+  pub evictor : IsEvictorOf (pool_of m.desk.cache.now) m.desk.evictor.now

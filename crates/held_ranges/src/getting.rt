@@ -7,15 +7,18 @@ ghost use Rattle.buffer_pool.specs.Pools.{IsContentOf, IsSameSeat, IsSeatOf, buf
 ghost use Rattle.cache_lookup.specs.Before.{HasNoPinOf};
 ghost use Rattle.range_cache.specs.Caches.{pool_of};
 ghost use Rattle.range_cache.specs.Fetches.{IsOfFile};
-ghost use Rattle.range_cache.specs.Ranges.{IsHit, IsRanged, IsRangedFor, range_key};
+ghost use Rattle.range_cache.specs.Ranges.{IsHit, IsRanged, range_key};
+ghost use Rattle.evicting_fetch.specs.Evictors.{IsEvictorOf};
+ghost use Rattle.evicting_fetch.specs.Fetches.{IsGot as IsFetched};
 ghost use Rattle.held_ranges.specs.Deeds.{gets, misses, how_of, key_at};
 ghost use Rattle.held_ranges.specs.Moments.{DeskHolds, IsGot, IsMissed, IsReadOut, Ran, keys_of, moment, slot_at};
 
 use crate::held::put;
 use crate::{Desk, Held};
+use evicting_fetch::fetch;
 use ledgers::How2;
 use outside::{Failed, FileRef, Store, World};
-use range_cache::{Cache, How, Key, PoolSeat, Ranged, fetch};
+use range_cache::{Cache, How, Key, PoolSeat, Ranged};
 
 /// How a range was got, as it is counted.
 fn counted_as(how: &How) -> How2
@@ -31,7 +34,7 @@ fn counted_as(how: &How) -> How2
 /// Reads a range out of its buffer after a hit. After a miss the scratch has its bytes.
 fn read_out<W: World>(cache: &Cache<W>, seat: &mut PoolSeat<W>, ranged: &Ranged, scratch: &mut [u8])
     requires seat { IsSeatOf (pool_of cache.now) seat.old }
-    requires ranged { IsRangedFor (pool_of cache.now) seat.old (range_key ranged.now) ranged.now }
+    requires ranged { IsFetched (pool_of cache.now) seat.old (range_key ranged.now) ranged.now }
     requires len { length scratch.old ≡ (range_key ranged.now).len }
     requires bytes { IsHit ranged.now.how ⊎ IsContentOf W.files (buffer_key (range_key ranged.now)) scratch.old }
     ensures seat { IsSameSeat (pool_of cache.now) seat.old seat.new }
@@ -55,6 +58,7 @@ pub(crate) fn get_range<W: World, S: Store<W>>(
     scratch: &mut [u8],
 ) -> Result<Ranged, Failed>
     requires seat { IsSeatOf (pool_of desk.old.cache.now) desk.old.seat.now }
+    requires evictor { IsEvictorOf (pool_of desk.old.cache.now) desk.old.evictor.now }
     requires key { IsKey key }
     requires file { IsOfFile key file }
     requires is_file { IsFile W.files file }
@@ -62,6 +66,7 @@ pub(crate) fn get_range<W: World, S: Store<W>>(
     requires no_pin { HasNoPinOf (buffer_key key) (view desk.old.seat.now) }
     requires scratch { length scratch.old ≡ key.len }
     ensures seat { IsSeatOf (pool_of desk.old.cache.now) desk.new.seat.now }
+    ensures evictor { IsEvictorOf (pool_of desk.old.cache.now) desk.new.evictor.now }
     ensures ranged { IfOk result (λ r. IsRanged (pool_of desk.old.cache.now) desk.new.seat.now r × (range_key r ≡ key)) }
     ensures got { IfOk result (λ r. IsGot W.files S.reads key r desk.old desk.new) }
     ensures missed { OnErr result (IsMissed W.files S.reads key desk.old desk.new) }
@@ -69,7 +74,15 @@ pub(crate) fn get_range<W: World, S: Store<W>>(
     ensures bytes { OnOk result (IsContentOf W.files (buffer_key key) scratch.new) }
     ensures cause { HasCause (S.fault_count desk.old.store.now) (S.fault_count desk.new.store.now) result }
 {
-    let ranged = fetch(desk.cache, desk.seat, desk.store, key, file, scratch)?;
+    let ranged = fetch(
+        desk.cache,
+        desk.seat,
+        desk.evictor,
+        desk.store,
+        key,
+        file,
+        scratch,
+    )?;
     read_out(desk.cache, desk.seat, &ranged, scratch);
     desk.totals
         .note(&counted_as(&ranged.how), ranged.evicted, ranged.moved);

@@ -36,6 +36,7 @@ pub fn let_go<W: World, S: Store<W>>(
     ensures keys { keys_of slots.new.items ≡ slice_set (keys_of slots.old.items) slot None }
     ensures store { desk.new.store.now ≡ desk.old.store.now }
     ensures cache { desk.new.cache.now ≡ desk.old.cache.now }
+    ensures evictor { desk.new.evictor.now ≡ desk.old.evictor.now }
     ensures count { length slots.new.items ≡ length slots.old.items }
 {
     match take_slot(slots, slot) {
@@ -74,6 +75,7 @@ fn let_go_if<W: World, S: Store<W>>(
     ensures keys { keys_of slots.new.items ≡ slice_set (keys_of slots.old.items) slot (others of (key_at (keys_of slots.old.items) slot)) }
     ensures store { desk.new.store.now ≡ desk.old.store.now }
     ensures cache { desk.new.cache.now ≡ desk.old.cache.now }
+    ensures evictor { desk.new.evictor.now ≡ desk.old.evictor.now }
     ensures count { length slots.new.items ≡ length slots.old.items }
 {
     if is_meant(slots, slot, of) {
@@ -95,6 +97,7 @@ pub(crate) fn let_go_from<W: World, S: Store<W>>(
     ensures keys { keys_of slots.new.items ≡ take slot (keys_of slots.old.items) ++ left_of of (drop slot (keys_of slots.old.items)) }
     ensures store { desk.new.store.now ≡ desk.old.store.now }
     ensures cache { desk.new.cache.now ≡ desk.old.cache.now }
+    ensures evictor { desk.new.evictor.now ≡ desk.old.evictor.now }
     ensures count { length slots.new.items ≡ length slots.old.items }
 {
     if slot < slots.len() {

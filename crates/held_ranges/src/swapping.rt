@@ -34,6 +34,7 @@ fn make_room<W: World, S: Store<W>>(
     ensures new { (other : ℕ) → key_at (keys_of slots.new.items) other ≢ Some key }
     ensures store { desk.new.store.now ≡ desk.old.store.now }
     ensures cache { desk.new.cache.now ≡ desk.old.cache.now }
+    ensures evictor { desk.new.evictor.now ≡ desk.old.evictor.now }
     ensures count { length slots.new.items ≡ length slots.old.items }
 {
     let_go(desk, slots, slot);
@@ -87,6 +88,7 @@ pub fn let_go_all<W: World, S: Store<W>>(desk: &mut Desk<'_, W, S>, slots: &mut 
     ensures no_pin { (header : ℕ) → (mark_at (view desk.new.seat.now) header).hold ≡ Free }
     ensures store { desk.new.store.now ≡ desk.old.store.now }
     ensures cache { desk.new.cache.now ≡ desk.old.cache.now }
+    ensures evictor { desk.new.evictor.now ≡ desk.old.evictor.now }
     ensures count { length slots.new.items ≡ length slots.old.items }
 {
     let_go_from(desk, slots, None, 0);

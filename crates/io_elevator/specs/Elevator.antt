@@ -18,6 +18,7 @@ module _ {W S : Type 0} where
       record {
         cache = n.cache;
         seat = record { ref_ptr = n.seat.ref_ptr; ghost_name = n.seat.ghost_name; now = d.seat.now };
+        evictor = record { ref_ptr = n.evictor.ref_ptr; ghost_name = n.evictor.ghost_name; now = d.evictor.now };
         store = record { ref_ptr = n.store.ref_ptr; ghost_name = n.store.ghost_name; now = d.store.now };
         totals = record { ref_ptr = n.totals.ref_ptr; ghost_name = n.totals.ghost_name; now = d.totals.now };
       }
@@ -27,9 +28,9 @@ module _ {W S : Type 0} where
   as_named n m = moment (named n m.desk) m.slots
 
 module _ {W S : Type 0} {G : Ghosts S W} where
-  -- its cache, seat, store and counts
+  -- its cache, seat, evictor, store and counts
   abbrev pub desk_of : Elevator W S G → Desk W S
-  desk_of e = record { cache = e.cache; seat = e.seat; store = e.store; totals = e.totals }
+  desk_of e = record { cache = e.cache; seat = e.seat; evictor = e.evictor; store = e.store; totals = e.totals }
 
   abbrev pub moment_of : Elevator W S G → Moment W S
   moment_of e = moment (desk_of e) e.scratch.now.slots.items
@@ -43,8 +44,8 @@ module _ {W S : Type 0} {G : Ghosts S W} where
 
   -- It made these acts, in their order, by deeds that fit them: its references are the same, and at the pool, the store and the
   -- counts each deed was done.
-  pub record Did (files : Option Files) (reads : S → Option (List FileRange)) (first : Elevator W S G) (acts : List Act) (last : Elevator W S G) :
-      Type 0 where
+  pub record Did (files : Option Files) (reads : S → Option (List FileRange)) (first : Elevator W S G) (acts : List Act)
+      (last : Elevator W S G) : Type 0 where
     pub same : SameDesk (desk_of first) (desk_of last)
     pub scratch : last.scratch.ghost_name ≡ first.scratch.ghost_name
     pub chunk : last.chunk ≡ first.chunk

@@ -1,5 +1,6 @@
 -- Deeds that fit acts: acts join, and neighbouring takes of a stream are one.
-use Rattle.std.proofs.Common.{◌≡◌, ◌≢◌, ℕ, ◌+◌, ◌-◌, ◌*◌, ◌/◌, ◌<◌, ◌≤◌, zero, suc, inl, inr, Bool, true, false, List, [], ◌∷◌, length, refl, sym, ap, ◌∙◌, subst, arith}
+use Rattle.std.proofs.Common.{◌≡◌, ◌≢◌, ℕ, ◌+◌, ◌-◌, ◌*◌, ◌/◌, ◌<◌, ◌≤◌, zero, suc, inl, inr, Bool, true, false, List, [], ◌∷◌, length}
+use Rattle.std.proofs.Common.{refl, sym, ap, ◌∙◌, subst, arith}
 use Rattle.std.specs.Prelude.{◌==◌, ◌++◌, if◌then◌else◌, Ok, slice_set}
 use Rattle.std.proofs.lemmas.Bool.{cases_eq, cases_lt, eq-eqb}
 use Rattle.std.proofs.lemmas.List.{append_assoc, get_or-set_other, get_or-set_same, set_past}
@@ -53,7 +54,8 @@ got_join slot file [] ys keys = refl
 got_join slot file (x ∷ xs) ys keys =
     let next : Keys = swapped slot (key_in file x) keys in
     ap (λ (ds : List Deed). swaps slot (key_in file x) keys ++ ds) (got_join slot file xs ys next)
-    ∙ sym (append_assoc (swaps slot (key_in file x) keys) (got_each slot file xs next) (got_each slot file ys (held_after slot file xs next)))
+    ∙ sym (append_assoc (swaps slot (key_in file x) keys) (got_each slot file xs next)
+    (got_each slot file ys (held_after slot file xs next)))
 
 held_join : (slot file : ℕ) (xs ys : List (ℕ × ℕ)) (keys : Keys)
     → held_after slot file (xs ++ ys) keys ≡ held_after slot file ys (held_after slot file xs keys)
@@ -69,7 +71,8 @@ at_moved cursors stream m fits =
     elim (cases_lt stream (length cursors)) [
       | inl below ↦ get_or-set_same cursors stream (moved (cursor_at cursors stream) m) closed below
       | inr past ↦
-          let same : slice_set cursors stream (moved (cursor_at cursors stream) m) ≡ cursors = set_past cursors stream (moved (cursor_at cursors stream) m) past in
+          let same : slice_set cursors stream (moved (cursor_at cursors stream) m) ≡ cursors =
+          set_past cursors stream (moved (cursor_at cursors stream) m) past in
           let none : cursor_at cursors stream ≡ closed = get_or_past cursors stream past in
           let fits' : closed.taken + m ≤ closed.range.len = subst (λ (c : Cursor). c.taken + m ≤ c.range.len) none fits in
           let zero_m : m ≡ 0 = omega (arith, fits') in
@@ -87,8 +90,8 @@ set_twice (c ∷ cs) zero a b = refl
 set_twice (c ∷ cs) (suc i) a b = ap (λ (xs : List Cursor). c ∷ xs) (set_twice cs i a b)
 
 module _ (d : ℕ) (some : 1 ≤ d) where
-  takes_sum : (s m n : ℕ) (c e f : Cursor) (k0 k1 k2 : Keys) (ds es : List Deed) → TakesBy d s c k0 (Ok m) e ds k1 → TakesBy d s (moved c m) k1 (Ok n) f es k2
-      → TakesBy d s c k0 (Ok (m + n)) f (ds ++ es) k2
+  takes_sum : (s m n : ℕ) (c e f : Cursor) (k0 k1 k2 : Keys) (ds es : List Deed) → TakesBy d s c k0 (Ok m) e ds k1
+      → TakesBy d s (moved c m) k1 (Ok n) f es k2 → TakesBy d s c k0 (Ok (m + n)) f (ds ++ es) k2
   takes_sum s m n c e f k0 k1 k2 ds es p q =
       let t : ℕ = c.taken in
       let file : ℕ = c.range.file in
@@ -101,13 +104,16 @@ module _ (d : ℕ) (some : 1 ≤ d) where
       between_join at len d t (t + m) (t + m + n) some (omega arith) (omega arith) ∙ ap (λ (k : ℕ). cuts_between at len d t k) sum in
       let mid : k1 ≡ held_after s file xs k0 = p.2 in (
         omega (arith, q.0),
-        ap (λ (zs : List Deed). zs ++ es) p.1 ∙ ap (λ (zs : List Deed). got_each s file xs k0 ++ zs) (q.1 ∙ ap (λ (ks : Keys). got_each s file ys ks) mid)
+        ap (λ (zs : List Deed). zs ++ es) p.1
+            ∙ ap (λ (zs : List Deed). got_each s file xs k0 ++ zs) (q.1 ∙ ap (λ (ks : Keys). got_each s file ys ks) mid)
             ∙ sym (got_join s file xs ys k0) ∙ ap (λ (cs : List (ℕ × ℕ)). got_each s file cs k0) all,
-        q.2 ∙ ap (λ (ks : Keys). held_after s file ys ks) mid ∙ sym (held_join s file xs ys k0) ∙ ap (λ (cs : List (ℕ × ℕ)). held_after s file cs k0) all,
+        q.2 ∙ ap (λ (ks : Keys). held_after s file ys ks) mid ∙ sym (held_join s file xs ys k0)
+            ∙ ap (λ (cs : List (ℕ × ℕ)). held_after s file cs k0) all,
         q.3 ∙ ap (λ (k : ℕ). record { range = c.range; taken = k }) sum,
       )
 
-  pub fits_join : (b m e : Books) (xs ys : List Act) (ds es : List Deed) → Fits d b xs ds m → Fits d m ys es e → Fits d b (xs ++ ys) (ds ++ es) e
+  pub fits_join : (b m e : Books) (xs ys : List Act) (ds es : List Deed) → Fits d b xs ds m → Fits d m ys es e
+      → Fits d b (xs ++ ys) (ds ++ es) e
   fits_join b m e [] ys ds es f g =
       subst (λ (zs : List Deed). Fits d b ys (zs ++ es) e) (sym f.0) (subst (λ (x : Books). Fits d x ys es e) f.1 g)
   fits_join b m e (x ∷ xs) ys ds es f g = (
@@ -128,7 +134,8 @@ module _ (d : ℕ) (some : 1 ≤ d) where
       let two = g.4 in
       let mid : Books = f.2 in
       let here : cursor_at mid.cursors s ≡ moved c m =
-      ap (λ (cs : List Cursor). cursor_at cs s) (one.2 ∙ ap (λ (x : Cursor). slice_set b.cursors s x) one.1.3) ∙ at_moved b.cursors s m one.1.0 in
+      ap (λ (cs : List Cursor). cursor_at cs s) (one.2 ∙ ap (λ (x : Cursor). slice_set b.cursors s x) one.1.3)
+      ∙ at_moved b.cursors s m one.1.0 in
       let second : TakesBy d s (moved c m) mid.keys (Ok n) two.0 g.0 (g.2).keys =
       subst (λ (x : Cursor). TakesBy d s x mid.keys (Ok n) two.0 g.0 (g.2).keys) here two.1 in (
         f.0 ++ g.0,
@@ -159,13 +166,15 @@ module _ (d : ℕ) (some : 1 ≤ d) where
     c = cursor_at b.cursors t.stream
 
     end : (fits : c.taken + t.len ≤ c.range.len) (is : f.0 ≡ moved c t.len)
-        → (cursor_at e.cursors t.stream ≡ moved c t.len) × (c.taken + t.len ≤ c.range.len) × (e.cursors ≡ slice_set b.cursors t.stream (moved c t.len))
+        → (cursor_at e.cursors t.stream ≡ moved c t.len) × (c.taken + t.len ≤ c.range.len)
+        × (e.cursors ≡ slice_set b.cursors t.stream (moved c t.len))
     end fits is =
         let all : e.cursors ≡ slice_set b.cursors t.stream (moved c t.len) = f.2 ∙ ap (λ (x : Cursor). slice_set b.cursors t.stream x) is in
         (ap (λ (cs : List Cursor). cursor_at cs t.stream) all ∙ at_moved b.cursors t.stream t.len fits, fits, all)
 
     go : (ok : Bool) → t.ok ≡ ok → TakeFits d ok t.stream t.len c b.keys f.0 ds e.keys
-        → (cursor_at e.cursors t.stream ≡ moved c t.len) × (c.taken + t.len ≤ c.range.len) × (e.cursors ≡ slice_set b.cursors t.stream (moved c t.len))
+        → (cursor_at e.cursors t.stream ≡ moved c t.len) × (c.taken + t.len ≤ c.range.len)
+        × (e.cursors ≡ slice_set b.cursors t.stream (moved c t.len))
     go true is g = end g.0 g.3
     go false is g =
         let none : t.len ≡ 0 = g.0 in
@@ -179,8 +188,10 @@ module _ (d : ℕ) (some : 1 ≤ d) where
       × (0 < taken_of s ts → (cursor_at b.cursors s).taken + taken_of s ts ≤ (cursor_at b.cursors s).range.len)
   fits_moved b e [] ds s f =
       let c : Cursor = cursor_at b.cursors s in
-      let same : c.taken ≡ c.taken + 0 = omega arith in
-      (ap (λ (x : Books). cursor_at x.cursors s) f.1 ∙ ap (λ (k : ℕ). record { range = c.range; taken = k }) same, λ more. absurd (omega (arith, more)))
+      let same : c.taken ≡ c.taken + 0 = omega arith in (
+        ap (λ (x : Books). cursor_at x.cursors s) f.1 ∙ ap (λ (k : ℕ). record { range = c.range; taken = k }) same,
+        λ more. absurd (omega (arith, more)),
+      )
   fits_moved b e (t ∷ ts) ds s f =
       let mid : Books = f.2 in
       let one = took t b mid f.0 f.4 in
@@ -237,7 +248,8 @@ module _ (d : ℕ) (some : 1 ≤ d) where
             ∙ get_or-set_other b.cursors t.stream s (moved (cursor_at b.cursors t.stream) t.len) closed (λ q. apart (sym q)) in
             let P : ℕ → Type 0 = λ n. (cursor_at e.cursors s ≡ moved c (n + k)) × (0 < n + k → c.taken + (n + k) ≤ c.range.len) in
             let plain : 0 + k ≡ k = omega arith in
-            subst P (sym zero_is) (subst (λ (n : ℕ). (cursor_at e.cursors s ≡ moved c n) × (0 < n → c.taken + n ≤ c.range.len)) (sym plain) (
+            let Q : ℕ → Type 0 = λ n. (cursor_at e.cursors s ≡ moved c n) × (0 < n → c.taken + n ≤ c.range.len) in
+            subst P (sym zero_is) (subst Q (sym plain) (
               rest.0 ∙ ap (λ (x : Cursor). moved x k) at,
               λ more. subst (λ (x : Cursor). x.taken + k ≤ x.range.len) at (rest.1 more),
             ))

@@ -10,8 +10,8 @@ use Rattle.pool_model.specs.Content.{Files}
 use Rattle.orc_streams.specs.Acts.{Act, read_acts, take_acts}
 use Rattle.range_cache.specs.declared.cache.Cache.{Cache}
 use Rattle.range_cache.specs.Caches.{pool_of}
-use Rattle.range_cache.specs.Fetches.{FailsToFetch, Fetches}
 use Rattle.range_cache.specs.Ranges.{IsDone}
+use Rattle.evicting_fetch.specs.Fetches.{FailsToFetch, Fetches}
 use Rattle.held_ranges.specs.declared.desk.Desk.{Desk}
 use Rattle.held_ranges.specs.Deeds.{Deed, drops, gets, misses}
 use Rattle.held_ranges.specs.Moments.{Does, IsReadOut, Moment, Ran, SameDesk}
@@ -24,11 +24,18 @@ use Rattle.io_elevator.specs.Fitting.{fits_join, fits_moved, fits_sum, read_acts
 use Rattle.io_elevator.specs.Sound.{rest_at}
 
 pub same_desk : {W S : Type 0} (d : Desk W S) → SameDesk d d
-same_desk d = record { cache = refl; seat = refl; store = refl; totals = refl; id = refl }
+same_desk d = record { cache = refl; seat = refl; evictor = refl; store = refl; totals = refl; id = refl }
 
 pub same_then : {W S : Type 0} (a b c : Desk W S) → SameDesk a b → SameDesk b c → SameDesk a c
 same_then a b c p q =
-    record { cache = q.cache ∙ p.cache; seat = q.seat ∙ p.seat; store = q.store ∙ p.store; totals = q.totals ∙ p.totals; id = q.id ∙ p.id }
+    record {
+      cache = q.cache ∙ p.cache;
+      seat = q.seat ∙ p.seat;
+      evictor = q.evictor ∙ p.evictor;
+      store = q.store ∙ p.store;
+      totals = q.totals ∙ p.totals;
+      id = q.id ∙ p.id;
+    }
 
 module _ (files : Option Files) {W S : Type 0} (reads : S → Option (List FileRange)) where
   -- ---- deeds by other references
@@ -40,7 +47,7 @@ module _ (files : Option Files) {W S : Type 0} (reads : S → Option (List FileR
         (
           x.0,
           record {
-            same = record { cache = refl; seat = refl; store = refl; totals = refl; id = g.same.id };
+            same = record { cache = refl; seat = refl; evictor = refl; store = refl; totals = refl; id = g.same.id };
             between = g.between;
             fetched = subst (λ (c : Cache W). Fetches files (pool_of c) m.desk.seat.now g.between key x.0) e g.fetched;
             out = subst (λ (c : Cache W). IsReadOut files (pool_of c) g.between k.desk.seat.now x.0 (x.0).how) e g.out;
@@ -55,7 +62,7 @@ module _ (files : Option Files) {W S : Type 0} (reads : S → Option (List FileR
       let g = x.0 in (
         (
           record {
-            same = record { cache = refl; seat = refl; store = refl; totals = refl; id = g.same.id };
+            same = record { cache = refl; seat = refl; evictor = refl; store = refl; totals = refl; id = g.same.id };
             failed = subst (λ (c : Cache W). FailsToFetch files (pool_of c) m.desk.seat.now k.desk.seat.now key) e g.failed;
             unread = g.unread;
             uncounted = g.uncounted;
@@ -71,8 +78,9 @@ module _ (files : Option Files) {W S : Type 0} (reads : S → Option (List FileR
           x.1,
           x.2,
           record {
-            same = record { cache = refl; seat = refl; store = refl; totals = refl; id = g.same.id };
+            same = record { cache = refl; seat = refl; evictor = refl; store = refl; totals = refl; id = g.same.id };
             done = subst (λ (c : Cache W). IsDone files (pool_of c) m.desk.seat.now k.desk.seat.now (x.0).ranged) e g.done;
+            kept = g.kept;
             unread = g.unread;
             uncounted = g.uncounted;
           },
@@ -98,8 +106,8 @@ module _ (files : Option Files) {W S : Type 0} {G : Ghosts S W} (reads : S → O
   pub did_nothing : (r : Elevator W S G) → Did files reads r [] r
   did_nothing r = record { same = same_desk (desk_of r); scratch = refl; chunk = refl; deeds = []; fits = (refl, refl); ran = refl }
 
-  pub did_joined : (first between last : Elevator W S G) (front back : List Act) → Did files reads first front between → Did files reads between back last
-      → Did files reads first (front ++ back) last
+  pub did_joined : (first between last : Elevator W S G) (front back : List Act) → Did files reads first front between
+      → Did files reads between back last → Did files reads first (front ++ back) last
   did_joined first between last front back p q =
       let back' = subst (λ (c : ℕ). Fits c (books_of between) back q.deeds (books_of last)) p.chunk q.fits in
       record {
@@ -107,9 +115,12 @@ module _ (files : Option Files) {W S : Type 0} {G : Ghosts S W} (reads : S → O
         scratch = q.scratch ∙ p.scratch;
         chunk = q.chunk ∙ p.chunk;
         deeds = p.deeds ++ q.deeds;
-        fits = fits_join first.chunk first.chunk_is.some (books_of first) (books_of between) (books_of last) front back p.deeds q.deeds p.fits back';
-        ran = ran_then files reads p.deeds q.deeds (moment_of first) (as_named (desk_of first) (moment_of between)) (as_named (desk_of first) (moment_of last))
-            p.ran (ran_named files reads (desk_of first) q.deeds (moment_of between) (as_named (desk_of between) (moment_of last)) p.same.cache q.ran);
+        fits = fits_join first.chunk first.chunk_is.some (books_of first) (books_of between) (books_of last) front back p.deeds q.deeds
+            p.fits back';
+        ran = ran_then files reads p.deeds q.deeds (moment_of first) (as_named (desk_of first) (moment_of between))
+            (as_named (desk_of first) (moment_of last)) p.ran
+            (ran_named files reads (desk_of first) q.deeds (moment_of between) (as_named (desk_of between) (moment_of last)) p.same.cache
+            q.ran);
       }
 
   pub went_on : (first between last : Elevator W S G) (front back : List ReadEntry) → Did files reads first (read_acts front) between
@@ -134,18 +145,20 @@ module _ (files : Option Files) {W S : Type 0} {G : Ghosts S W} (reads : S → O
   pub fed_nothing : (r : Elevator W S G) → Fed r [] r
   fed_nothing r = record { did = did_nothing r; lost = λ stream. Lost-nothing (rest_of files r stream) }
 
-  pub fed_joined : (first between last : Elevator W S G) (xs ys : List Taken) → Fed first xs between → Fed between ys last → Fed first (xs ++ ys) last
+  pub fed_joined : (first between last : Elevator W S G) (xs ys : List Taken) → Fed first xs between → Fed between ys last
+      → Fed first (xs ++ ys) last
   fed_joined first between last xs ys p q =
       record {
         did = subst (λ (acts : List Act). Did files reads first acts last) (sym (take_acts_join xs ys))
             (did_joined first between last (take_acts xs) (take_acts ys) p.did q.did);
-        lost = λ stream. subst (λ (n : ℕ). Lost n (rest_of files first stream) (rest_of files last stream)) (sym (taken_of-append stream xs ys))
-            (Lost-then (taken_of stream xs) (taken_of stream ys) (rest_of files first stream) (rest_of files between stream) (rest_of files last stream)
-            (p.lost stream) (q.lost stream));
+        lost = λ stream.
+            let rest : Elevator W S G → Option (List ℕ) = λ e. rest_of files e stream in
+            subst (λ (n : ℕ). Lost n (rest first) (rest last)) (sym (taken_of-append stream xs ys))
+            (Lost-then (taken_of stream xs) (taken_of stream ys) (rest first) (rest between) (rest last) (p.lost stream) (q.lost stream));
       }
 
-  pub fed_sum : (first last : Elevator W S G) (before after : List Taken) (stream m n : ℕ) → Fed first (before ++ gave stream m ∷ gave stream n ∷ after) last
-      → Fed first (before ++ gave stream (m + n) ∷ after) last
+  pub fed_sum : (first last : Elevator W S G) (before after : List Taken) (stream m n : ℕ)
+      → Fed first (before ++ gave stream m ∷ gave stream n ∷ after) last → Fed first (before ++ gave stream (m + n) ∷ after) last
   fed_sum first last before after stream m n p =
       record {
         did = record {
@@ -156,7 +169,9 @@ module _ (files : Option Files) {W S : Type 0} {G : Ghosts S W} (reads : S → O
           fits = fits_sum first.chunk first.chunk_is.some (books_of first) (books_of last) before after stream m n p.did.deeds p.did.fits;
           ran = p.did.ran;
         };
-        lost = λ other. subst (λ (k : ℕ). Lost k (rest_of files first other) (rest_of files last other)) (taken_of-sum other stream m n before after) (p.lost other);
+        lost = λ other.
+            subst (λ (k : ℕ). Lost k (rest_of files first other) (rest_of files last other))
+            (taken_of-sum other stream m n before after) (p.lost other);
       }
 
   pub takes_leave : (first last : Elevator W S G) (ts : List Taken) (stream : ℕ) → Fed first ts last → taken_of stream ts ≡ 0

@@ -10,6 +10,8 @@ use Rattle.buffer_pool.specs.declared.token.Pin.{Pin}
 use Rattle.buffer_pool.specs.Pools.{IsPinOf, IsSeatOf}
 use Rattle.range_cache.specs.declared.ranged.Grip.{Grip}
 use Rattle.range_cache.specs.declared.ranged.Grip.TheVariants as grip
+use Rattle.range_cache.specs.declared.cache.Cache.{Cache}
+use Rattle.range_cache.specs.Caches.{pool_of}
 use Rattle.range_cache.specs.Ranges.{IsGripOf}
 use Rattle.held_ranges.specs.declared.held.Held.{Held}
 use Rattle.held_ranges.specs.Moments.{AreEmpty, IsHeld, IsHolding, Slots}
@@ -63,5 +65,12 @@ module _ {W : Type 0} (pool : Pool W) (seat : PoolSeat W) where
   seat_prop : IsProp (IsSeatOf pool seat)
   seat_prop = hlevel props
 
-  pub holding_prop : (slots : Slots) → IsProp (IsHolding pool seat slots)
+  holding_prop : (slots : Slots) → IsProp (IsHolding pool seat slots)
   holding_prop slots = hlevel (props, held_prop, seat_prop)
+
+-- the seat is that cache's, and has just the pins of what those slots hold
+abbrev pub AreHeld : {W : Type 0} → Cache W → PoolSeat W → Slots → Type 0
+AreHeld cache seat slots = IsHolding (pool_of cache) seat slots
+
+pub held_once : {W : Type 0} (cache : Cache W) (seat : PoolSeat W) (slots : Slots) → IsProp (AreHeld cache seat slots)
+held_once cache seat slots = holding_prop (pool_of cache) seat slots

@@ -2,13 +2,14 @@
 ghost use Rattle.std.specs.Prelude.{◌≡◌, length};
 ghost use Rattle.buffer_pool.specs.Pools.{sizes_of};
 ghost use Rattle.range_cache.specs.Caches.{pool_of};
-ghost use Rattle.held_ranges.specs.Moments.{IsHolding};
+ghost use Rattle.evicting_fetch.specs.Evictors.{IsEvictorOf};
 ghost use Rattle.cut_streams.specs.Visits.{IsChunk};
-ghost use Rattle.io_elevator.specs.Sound.{AreCutBy, holding_prop};
+ghost use Rattle.io_elevator.specs.Sound.{AreCutBy, AreHeld, held_once};
 
 use crate::Scratch;
 use crate::scratch::{chunk_for, close_scratch, take_at};
 use cut_streams::visit_cuts;
+use evicting_fetch::Evictor;
 use held_ranges::Desk;
 use ledgers::CacheTotals;
 use orc_streams::{OpenFault, Span, StreamReader};
@@ -16,14 +17,16 @@ use outside::{Failed, Feed, FileRef, RangeReader, Store, World};
 use range_cache::{Cache, PoolSeat};
 use std::alloc::Global;
 
-/// A reader of ranges and streams that goes through a cache; it borrows the cache, a seat of it, a store, the counts of how ranges were
-/// got, and the memory that it works in.
+/// A reader of ranges and streams that goes through a cache; it borrows the cache, a seat of it, what decides the cache's evictions, a
+/// store, the counts of how ranges were got, and the memory that it works in.
 #[derive(Drop)]
 pub struct Elevator<'a, W: World, S: Store<W>> {
     /// The cache.
     pub cache: &'a Cache<W>,
     /// The seat.
     pub seat: &'a mut PoolSeat<W>,
+    /// What decides evictions.
+    pub evictor: &'a mut Evictor,
     /// The store.
     pub store: &'a mut S,
     /// The counts.
@@ -31,7 +34,8 @@ pub struct Elevator<'a, W: World, S: Store<W>> {
     /// The scratch.
     pub scratch: &'a mut Scratch<W>,
     pub(crate) chunk: u32,
-    pub ghost holding: { IsHolding (pool_of cache.now) seat.now scratch.now.slots.items } by { holding_prop (pool_of cache.now) seat.now scratch.now.slots.items },
+    pub ghost holding: { AreHeld cache.now seat.now scratch.now.slots.items } by { held_once cache.now seat.now scratch.now.slots.items },
+    pub ghost evicts: { IsEvictorOf (pool_of cache.now) evictor.now },
     pub ghost chunk_is: { IsChunk (sizes_of (pool_of cache.now)) chunk },
     pub ghost slots: { length scratch.now.slots.items ≡ 65 },
     pub ghost streams: { length scratch.now.streams.items ≡ 64 },
@@ -47,23 +51,29 @@ impl<'a, W: World, S: Store<W>> Elevator<'a, W, S> {
     ghost use Rattle.io_elevator.specs.Elevator.{Did, rest_of};
     ghost use Rattle.io_elevator.specs.Scratch.{IsFreshFor, IsIdle};
 
-    /// An elevator over that cache, through that seat, in front of that store, which counts into those totals and works in that scratch.
+    /// An elevator over that cache, through that seat, in front of that store, which evicts by that evictor, counts into those totals and
+    /// works in that scratch.
     ///
-    /// The seat is one of the cache's and has no pin; in the scratch, which is for that cache, nothing is held.
+    /// The seat is one of the cache's and has no pin; the evictor is one of the cache's; in the scratch, which is for that cache, nothing
+    /// is held.
     #[tactic(auto, using(crate::proofs::Streams::fresh_holds, crate::proofs::Streams::fresh_cut))]
     pub fn new(
         cache: &'a Cache<W>,
         seat: &'a mut PoolSeat<W>,
+        evictor: &'a mut Evictor,
         store: &'a mut S,
         totals: &'a mut CacheTotals,
         scratch: &'a mut Scratch<W>,
     ) -> Elevator<'a, W, S>
         requires seat { IsSeatOf (pool_of cache.now) seat.old }
         requires no_pin { (header : ℕ) → (mark_at (view seat.old) header).hold ≡ Free }
+        requires evictor { IsEvictorOf (pool_of cache.now) evictor.old }
         requires fresh { IsFreshFor (sizes_of (pool_of cache.now)) scratch.old }
         ensures cache { result.cache.now ≡ cache.now }
         ensures seat_name { result.seat.ghost_name ≡ seat.entry.ghost_name }
         ensures seat { result.seat.now ≡ seat.old }
+        ensures evictor_name { result.evictor.ghost_name ≡ evictor.entry.ghost_name }
+        ensures evictor { result.evictor.now ≡ evictor.old }
         ensures store_name { result.store.ghost_name ≡ store.entry.ghost_name }
         ensures store { result.store.now ≡ store.old }
         ensures totals_name { result.totals.ghost_name ≡ totals.entry.ghost_name }
@@ -75,6 +85,7 @@ impl<'a, W: World, S: Store<W>> Elevator<'a, W, S> {
         Elevator {
             cache,
             seat,
+            evictor,
             store,
             totals,
             scratch,
@@ -82,16 +93,20 @@ impl<'a, W: World, S: Store<W>> Elevator<'a, W, S> {
         }
     }
 
-    /// Drops all ranges that are held, and closes all streams: the seat has no pin then, and the scratch can be freed.
+    /// Drops all ranges that are held, and closes all streams: the seat has no pin then, and the scratch can be freed, or serve another
+    /// elevator over the same cache.
     pub fn end(&mut self)
         ensures left { (stream : ℕ) (bytes : List ℕ) → rest_of W.files self.new stream ≡ Some bytes → bytes ≡ [] }
         ensures acts { Did W.files S.reads self.old (closes ∷ []) self.new }
         ensures idle { IsIdle self.new.scratch.now }
+        ensures fresh { IsFreshFor (sizes_of (pool_of self.new.cache.now)) self.new.scratch.now }
         ensures no_pin { (header : ℕ) → (mark_at (view self.new.seat.now) header).hold ≡ Free }
         ensures seat { IsSeatOf (pool_of self.new.cache.now) self.new.seat.now }
+        ensures evictor { self.new.evictor.now ≡ self.old.evictor.now }
         ensures store { self.new.store.now ≡ self.old.store.now }
         ensures cache { self.new.cache.now ≡ self.old.cache.now }
         ensures seat_name { self.new.seat.ghost_name ≡ self.old.seat.ghost_name }
+        ensures evictor_name { self.new.evictor.ghost_name ≡ self.old.evictor.ghost_name }
         ensures store_name { self.new.store.ghost_name ≡ self.old.store.ghost_name }
         ensures totals_name { self.new.totals.ghost_name ≡ self.old.totals.ghost_name }
         ensures scratch_name { self.new.scratch.ghost_name ≡ self.old.scratch.ghost_name }
@@ -99,6 +114,7 @@ impl<'a, W: World, S: Store<W>> Elevator<'a, W, S> {
         let mut desk = Desk {
             cache: self.cache,
             seat: &mut *self.seat,
+            evictor: &mut *self.evictor,
             store: &mut *self.store,
             totals: &mut *self.totals,
         };
@@ -127,6 +143,7 @@ impl<'a, W: World, S: Store<W>> RangeReader<W> for Elevator<'a, W, S> {
         let mut desk = Desk {
             cache: self.cache,
             seat: &mut *self.seat,
+            evictor: &mut *self.evictor,
             store: &mut *self.store,
             totals: &mut *self.totals,
         };
@@ -161,6 +178,7 @@ impl<'a, W: World, S: Store<W>> Feed for Elevator<'a, W, S> {
         let mut desk = Desk {
             cache: self.cache,
             seat: &mut *self.seat,
+            evictor: &mut *self.evictor,
             store: &mut *self.store,
             totals: &mut *self.totals,
         };

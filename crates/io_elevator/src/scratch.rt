@@ -142,6 +142,7 @@ pub(crate) fn take_at<W: World, S: Store<W>>(
         ≤ (cursor_at (cursors_of scratch.old.streams.items) slot).taken) }
     ensures cause { HasCause (S.fault_count desk.old.store.now) (S.fault_count desk.new.store.now) result }
     ensures seat_name { desk.new.seat.ghost_name ≡ desk.old.seat.ghost_name }
+    ensures evictor_name { desk.new.evictor.ghost_name ≡ desk.old.evictor.ghost_name }
     ensures store_name { desk.new.store.ghost_name ≡ desk.old.store.ghost_name }
     ensures totals_name { desk.new.totals.ghost_name ≡ desk.old.totals.ghost_name }
     ensures cache { desk.new.cache.now ≡ desk.old.cache.now }
@@ -167,7 +168,9 @@ pub(crate) fn close_scratch<W: World, S: Store<W>>(
     ensures empty { AreEmpty scratch.new.slots.items }
     ensures no_pin { (header : ℕ) → (mark_at (view desk.new.seat.now) header).hold ≡ Free }
     ensures store { desk.new.store.now ≡ desk.old.store.now }
+    ensures evictor { desk.new.evictor.now ≡ desk.old.evictor.now }
     ensures seat_name { desk.new.seat.ghost_name ≡ desk.old.seat.ghost_name }
+    ensures evictor_name { desk.new.evictor.ghost_name ≡ desk.old.evictor.ghost_name }
     ensures store_name { desk.new.store.ghost_name ≡ desk.old.store.ghost_name }
     ensures totals_name { desk.new.totals.ghost_name ≡ desk.old.totals.ghost_name }
     ensures cache { desk.new.cache.now ≡ desk.old.cache.now }

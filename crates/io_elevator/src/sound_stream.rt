@@ -93,6 +93,7 @@ impl<W: World> SoundStream<W> {
         ensures ends { IfOk result (λ n. 0 < length into.old → n ≡ 0 → self.old.cursor.range.len ≤ self.old.cursor.taken) }
         ensures cause { HasCause (S.fault_count desk.old.store.now) (S.fault_count desk.new.store.now) result }
         ensures seat_name { desk.new.seat.ghost_name ≡ desk.old.seat.ghost_name }
+        ensures evictor_name { desk.new.evictor.ghost_name ≡ desk.old.evictor.ghost_name }
         ensures store_name { desk.new.store.ghost_name ≡ desk.old.store.ghost_name }
         ensures totals_name { desk.new.totals.ghost_name ≡ desk.old.totals.ghost_name }
         ensures cache { desk.new.cache.now ≡ desk.old.cache.now }

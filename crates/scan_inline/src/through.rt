@@ -6,6 +6,7 @@ ghost use Rattle.pool_rule.specs.declared.view.Hold.TheVariants.{Free};
 ghost use Rattle.pool_rule.specs.Seats.{mark_at};
 ghost use Rattle.buffer_pool.specs.Pools.{IsSeatOf, sizes_of, view};
 ghost use Rattle.range_cache.specs.Caches.{pool_of};
+ghost use Rattle.evicting_fetch.specs.Evictors.{IsEvictorOf};
 ghost use Rattle.fragment_plan.specs.declared.fragment.Scan.{Scan};
 ghost use Rattle.fragment_folds.specs.Scans.{scan_at};
 ghost use Rattle.fragment_meaning.specs.ScanOutcome.{IsOutcomeOn};
@@ -17,6 +18,7 @@ ghost use Rattle.io_elevator.specs.Elevator.{Did};
 ghost use Rattle.io_elevator.specs.Scratch.{IsFreshFor, IsIdle};
 ghost use Rattle.scan_inline.specs.Counts.{AreCounted, HaveFit};
 
+use evicting_fetch::Evictor;
 use fragment_outcome::Outcome;
 use fragment_plan::Plan;
 use fragment_scan::scan_file;
@@ -40,6 +42,7 @@ fn scan_by<W: World, S: Store<W>>(
     requires is_file { IsFile W.files file }
     ensures cache { elevator.new.cache.now ≡ elevator.old.cache.now }
     ensures seat_name { elevator.new.seat.ghost_name ≡ elevator.old.seat.ghost_name }
+    ensures evictor_name { elevator.new.evictor.ghost_name ≡ elevator.old.evictor.ghost_name }
     ensures store_name { elevator.new.store.ghost_name ≡ elevator.old.store.ghost_name }
     ensures totals_name { elevator.new.totals.ghost_name ≡ elevator.old.totals.ghost_name }
     ensures scratch_name { elevator.new.scratch.ghost_name ≡ elevator.old.scratch.ghost_name }
@@ -66,11 +69,14 @@ fn scan_and_end<W: World, S: Store<W>>(
     requires fit { HaveFit elevator.old.totals.now }
     ensures cache { elevator.new.cache.now ≡ elevator.old.cache.now }
     ensures seat_name { elevator.new.seat.ghost_name ≡ elevator.old.seat.ghost_name }
+    ensures evictor_name { elevator.new.evictor.ghost_name ≡ elevator.old.evictor.ghost_name }
     ensures store_name { elevator.new.store.ghost_name ≡ elevator.old.store.ghost_name }
     ensures totals_name { elevator.new.totals.ghost_name ≡ elevator.old.totals.ghost_name }
     ensures scratch_name { elevator.new.scratch.ghost_name ≡ elevator.old.scratch.ghost_name }
     ensures seat { IsSeatOf (pool_of elevator.new.cache.now) elevator.new.seat.now }
     ensures no_pin { (header : ℕ) → (mark_at (view elevator.new.seat.now) header).hold ≡ Free }
+    ensures evictor { IsEvictorOf (pool_of elevator.new.cache.now) elevator.new.evictor.now }
+    ensures fresh { IsFreshFor (sizes_of (pool_of elevator.new.cache.now)) elevator.new.scratch.now }
     ensures idle { IsIdle elevator.new.scratch.now }
     ensures means { (scan : Scan) → scan_at plan.now fragment ≡ Some scan → (bytes : List ℕ) → HasBytes W.files file bytes
         → IfDecided result (IsOutcomeOn scan (Some bytes)) }
@@ -101,9 +107,9 @@ fn counts_fit(totals: &CacheTotals)
 
 /// Scans a file through a cache, as a fragment of a plan that is a scan asks it.
 ///
-/// The seat is one of the cache's and has no pin, before and after; in the scratch nothing is held, before and after. Where the file is
-/// told, the outcome is the scan's on the file's bytes, unless it is `ReadFault`, which comes only where the store's faults rose in this
-/// call.
+/// The seat is one of the cache's and has no pin, before and after; the evictor is one of the cache's; in the scratch, which is for that
+/// cache, nothing is held, before and after, so it serves the next scan. Where the file is told, the outcome is the scan's on the file's
+/// bytes, unless it is `ReadFault`, which comes only where the store's faults rose in this call.
 ///
 /// Hits, fills and bypasses don't fall; and where the store tells its reads, fills and bypasses grow by as many as there are more, unless
 /// one of the two stands at its last value. `NoMemory` comes only where memory was refused.
@@ -111,6 +117,7 @@ pub fn scan_through<W: World, S: Store<W>>(
     alloc: Global,
     cache: &Cache<W>,
     seat: &mut PoolSeat<W>,
+    evictor: &mut Evictor,
     store: &mut S,
     totals: &mut CacheTotals,
     scratch: &mut Scratch<W>,
@@ -120,12 +127,15 @@ pub fn scan_through<W: World, S: Store<W>>(
 ) -> Result<Outcome, NoMemory>
     requires seat { IsSeatOf (pool_of cache.now) seat.old }
     requires no_pin { (header : ℕ) → (mark_at (view seat.old) header).hold ≡ Free }
+    requires evictor { IsEvictorOf (pool_of cache.now) evictor.old }
     requires fresh { IsFreshFor (sizes_of (pool_of cache.now)) scratch.old }
     requires scan { IsSome (scan_at plan.now fragment) }
     requires number { file.number < 4096 }
     requires is_file { IsFile W.files file }
     ensures seat { IsSeatOf (pool_of cache.now) seat.new }
     ensures no_pin { (header : ℕ) → (mark_at (view seat.new) header).hold ≡ Free }
+    ensures evictor { IsEvictorOf (pool_of cache.now) evictor.new }
+    ensures fresh { IsFreshFor (sizes_of (pool_of cache.now)) scratch.new }
     ensures idle { IsIdle scratch.new }
     ensures means { (scan : Scan) → scan_at plan.now fragment ≡ Some scan → (bytes : List ℕ) → HasBytes W.files file bytes
         → IfDecided result (IsOutcomeOn scan (Some bytes)) }
@@ -134,6 +144,6 @@ pub fn scan_through<W: World, S: Store<W>>(
     ensures counted { AreCounted (S.reads store.old) (S.reads store.new) totals.old totals.new }
 {
     counts_fit(totals);
-    let mut elevator = Elevator::new(cache, seat, store, totals, scratch);
+    let mut elevator = Elevator::new(cache, seat, evictor, store, totals, scratch);
     scan_and_end(alloc, &mut elevator, file, plan, fragment)
 }

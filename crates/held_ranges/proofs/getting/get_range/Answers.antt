@@ -12,14 +12,14 @@ pub read_out-requires-clause-bytes : goal.read_out-requires-clause-bytes
 read_out-requires-clause-bytes g c =
     let r = c.in_ok-ranged in
     let P : Key → Type 0 = λ k. IsHit r.ranged.how ⊎ IsContentOf g.W.World.files (buffer_key k) c.fetch.new.scratch in
-    subst P (sym r.ensures.ranged.key_is) r.ensures.bytes
+    subst P (sym r.ensures.got.key_is) r.ensures.bytes
 
 pub returns-clause-got : goal.returns-clause-got
 returns-clause-got g c =
     let r = c.in_ok-ranged in
     let R : ℕ → Type 0 = λ file. Reads (g.S.Store.reads c.args.desk.now.store.now) (g.S.Store.reads c.fetch.new.store) (record { file = file; at = c.args.key.at; len = c.args.key.len }) r.ranged.how in
     record {
-      same = record { cache = refl; seat = refl; store = refl; totals = refl; id = c.read_out.ensures.seat.same ∙ r.ensures.seat.same };
+      same = record { cache = refl; seat = refl; evictor = refl; store = refl; totals = refl; id = c.read_out.ensures.seat.same ∙ r.ensures.seat.same };
       between = c.fetch.new.seat;
       fetched = r.ensures.fetched;
       out = c.read_out.ensures.out;

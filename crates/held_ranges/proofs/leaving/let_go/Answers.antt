@@ -9,7 +9,7 @@ use Rattle.held_ranges.proofs.leaving.let_go.Goals as goal
 pub drop_range-requires-clause-ranged : goal.drop_range-requires-clause-ranged
 drop_range-requires-clause-ranged g c =
     let was : slot_at c.args.slots.now.items c.args.slot ≡ Some c.in-Some.held = sym c.take_slot.ensures.held ∙ c.in-Some.is in
-    (subst (λ (h : Option Held). IsHeld (pool_of c.args.desk.now.cache.now) c.args.desk.now.seat.now h) was (c.requires.holding.each c.args.slot)).0
+    (subst (λ (h : Option Held). IsHeld (pool_of c.args.desk.now.cache.now) c.args.desk.now.seat.now h) was (c.requires.holding.holding.each c.args.slot)).0
 
 pub returns-in-None-clause-holding : goal.returns-in-None-clause-holding
 returns-in-None-clause-holding g c =

@@ -10,5 +10,5 @@ returns-clause-empty g c = all_emptied c.args.slots.now.items c.let_go_from.new.
 
 pub returns-clause-no_pin : goal.returns-clause-no_pin
 returns-clause-no_pin g c =
-    nothing_held (pool_of c.let_go_from.new.desk.cache.now) c.let_go_from.new.desk.seat.now c.let_go_from.new.slots.items c.let_go_from.ensures.holding
+    nothing_held (pool_of c.let_go_from.new.desk.cache.now) c.let_go_from.new.desk.seat.now c.let_go_from.new.slots.items c.let_go_from.ensures.holding.holding
     (all_emptied c.args.slots.now.items c.let_go_from.new.slots.items c.let_go_from.ensures.keys)

@@ -16,6 +16,11 @@ returns-clause-seat_name g c =
     (ran_same g.W.World.files g.S.Store.reads _ (moment c.args.desk.now c.args.scratch.now.slots.items) (moment c.let_go_all.new.desk c.let_go_all.new.slots.items)
     c.let_go_all.ensures.went).seat
 
+pub returns-clause-evictor_name : goal.returns-clause-evictor_name
+returns-clause-evictor_name g c =
+    (ran_same g.W.World.files g.S.Store.reads _ (moment c.args.desk.now c.args.scratch.now.slots.items) (moment c.let_go_all.new.desk c.let_go_all.new.slots.items)
+    c.let_go_all.ensures.went).evictor
+
 pub returns-clause-store_name : goal.returns-clause-store_name
 returns-clause-store_name g c =
     (ran_same g.W.World.files g.S.Store.reads _ (moment c.args.desk.now c.args.scratch.now.slots.items) (moment c.let_go_all.new.desk c.let_go_all.new.slots.items)

@@ -23,6 +23,11 @@ returns-clause-seat_name g c =
     let s = the_scan (scan_at c.args.plan.now c.args.fragment) c.requires.scan in
     (c.scan_file.ensures.scans s.0 s.1).by.same.seat
 
+pub returns-clause-evictor_name : goal.returns-clause-evictor_name
+returns-clause-evictor_name g c =
+    let s = the_scan (scan_at c.args.plan.now c.args.fragment) c.requires.scan in
+    (c.scan_file.ensures.scans s.0 s.1).by.same.evictor
+
 pub returns-clause-store_name : goal.returns-clause-store_name
 returns-clause-store_name g c =
     let s = the_scan (scan_at c.args.plan.now c.args.fragment) c.requires.scan in

@@ -10,5 +10,5 @@ use Rattle.data_path.proofs.cache_scanner.CacheScannerScanner.scan.Goals as goal
 pub returns-clause-worded : goal.returns-clause-worded
 returns-clause-worded g c =
     let found = scan_at c.args.plan.now c.args.fragment in
-    IfOk-weaker c.scan_inline.result (λ o. (scan : Scan) → found ≡ Some scan → IsOutcomeFor scan o) ScanHasWords
-    (λ o is. scan_words found o c.requires.is_scan is) c.scan_inline.ensures.is_for
+    IfOk-weaker c.scan_with.result (λ o. (scan : Scan) → found ≡ Some scan → IsOutcomeFor scan o) ScanHasWords
+    (λ o is. scan_words found o c.requires.is_scan is) c.scan_with.ensures.is_for

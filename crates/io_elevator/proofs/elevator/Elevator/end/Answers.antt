@@ -20,6 +20,6 @@ pub returns-clause-acts : goal.returns-clause-acts
 returns-clause-acts g c =
     let w = c.close_scratch.ensures.went in
     did_by g.W.World.files g.S.Store.reads c.args.self.now _ _ _ w refl refl refl
-    (record { cache = refl; seat = refl; store = refl; totals = refl; id = w.same.id }) refl refl
+    (record { cache = refl; seat = refl; evictor = refl; store = refl; totals = refl; id = w.same.id }) refl refl
     (λ ds t. fits_close c.args.self.now.chunk _ _ ds t.0 t.1
     (ap (λ (ss : List StreamOf). cursors_of ss) c.close_scratch.ensures.closed ∙ cursors_shut c.args.self.now.scratch.now.streams.items))

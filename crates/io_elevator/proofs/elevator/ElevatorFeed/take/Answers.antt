@@ -45,7 +45,7 @@ returns-clause-entry g c =
     let after = cursors_of c.take_at.new.scratch.streams.items in
     record {
       did = did_by g.W.World.files g.S.Store.reads c.args.self.now _ _ _ w refl refl refl
-          (record { cache = refl; seat = refl; store = refl; totals = refl; id = w.same.id }) refl refl
+          (record { cache = refl; seat = refl; evictor = refl; store = refl; totals = refl; id = w.same.id }) refl refl
           (λ ds t. fits_take c.args.self.now.chunk c.args.stream _ _ c.take_at.result ds t c.take_at.ensures.cursors);
       lost = lost_by g.W.World.files c.args.self.now.chunk c.args.stream before after (keys_of c.args.self.now.scratch.now.slots.items)
           (keys_of c.take_at.new.scratch.slots.items) w.deeds c.take_at.result w.so c.take_at.ensures.cursors c.take_at.ensures.inside;

@@ -3,22 +3,22 @@ use Rattle.outside.specs.Files.{file_named}
 use Rattle.fragment_folds.specs.Scans.{scan_at}
 use Rattle.scan_inline.proofs.Finding.{found_is_file, scanned_means}
 use Rattle.scan_inline.proofs.Growth.{counted_since}
-use Rattle.scan_inline.proofs.inline.scan_inline.Goals as goal
+use Rattle.scan_inline.proofs.inline.scan_with.Goals as goal
 
-pub scan_found-requires-clause-is_file : goal.scan_found-requires-clause-is_file
-scan_found-requires-clause-is_file g c =
+pub scan_through-requires-clause-is_file : goal.scan_through-requires-clause-is_file
+scan_through-requires-clause-is_file g c =
     found_is_file g.W.World.files c.as_str.result.now c.in-Ok-Some.found (λ files told. sym c.in-Ok-Some.field-0-is ∙ c.in-Ok-Some.ensures.found files told)
 
 pub returns-clause-means : goal.returns-clause-means
 returns-clause-means g c =
-    scanned_means g.W.World.files (scan_at c.args.plan.now c.args.fragment) c.scan_of.result.now c.in-Ok-Some.found c.scan_found.result c.scan_of.ensures
+    scanned_means g.W.World.files (scan_at c.args.plan.now c.args.fragment) c.scan_of.result.now c.in-Ok-Some.found c.scan_through.result c.scan_of.ensures
     (λ files told. sym c.in-Ok-Some.field-0-is ∙ c.in-Ok-Some.ensures.found files told ∙ ap (λ (n : List ℕ). file_named n files) c.as_str.ensures)
-    c.scan_found.ensures.means
+    c.scan_through.ensures.means
 
 pub returns-clause-counted : goal.returns-clause-counted
 returns-clause-counted g c =
-    counted_since (g.S.Store.reads c.args.store.now) (g.S.Store.reads c.find.new.self) (g.S.Store.reads c.scan_found.new.store) c.args.totals.now c.scan_found.new.totals
-    c.find.ensures.reads c.scan_found.ensures.counted
+    counted_since (g.S.Store.reads c.args.store.now) (g.S.Store.reads c.find.new.self) (g.S.Store.reads c.scan_through.new.store) c.args.totals.now c.scan_through.new.totals
+    c.find.ensures.reads c.scan_through.ensures.counted
 
 pub returns-in-Ok-None-clause-cause : goal.returns-in-Ok-None-clause-cause
 returns-in-Ok-None-clause-cause g c = record { later = c.find.ensures.cause.later; failed = λ e. absurd cc }
