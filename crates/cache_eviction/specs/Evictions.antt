@@ -14,7 +14,8 @@ use Rattle.buffer_pool.specs.Made.{AreMade}
 -- a load showed an idle buffer; from that word it is evicted, its header is released, and its block is given back
 pub data OutSteps (header : ℕ) : List WordStep → Block → Type 0 where
   out : (word released given : ℕ) → IsIdleWord word → OutSteps header
-      (Looked (State header) word ∷ EvictBegun header word ∷ HeaderReleased header (block_in word) released ∷ Returned (block_in word) given ∷ [])
+      (Looked (State header) word ∷ EvictBegun header word ∷ HeaderReleased header
+          (block_in word) released ∷ Returned (block_in word) given ∷ [])
       (block_in word)
 
 -- a load showed another word, or the exchange found another than the load: it is refused by that word

@@ -1,2 +1,4 @@
 pub mod Evictions
+pub mod Order
+pub mod OrderLaws
 pub mod Victims

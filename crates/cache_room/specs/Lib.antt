@@ -2,3 +2,5 @@ pub mod Tried
 pub mod TriedLaws
 pub mod Quiet
 pub mod Rooms
+pub mod Searches
+pub mod SearchLaws

@@ -95,10 +95,12 @@ key_mark header found v =
       | inl within ↦ get_or-set_same v.marks header m clear_mark within
       | inr past ↦
           ap (λ (l : List Mark). slice_index_or l header clear_mark) (set_past v.marks header m past)
-          ∙ (get_or_past v.marks header clear_mark past ∙ sym (ap (mark_with_key (key_of found)) (get_or_past v.marks header clear_mark past)))
+          ∙ (get_or_past v.marks header clear_mark past
+              ∙ sym (ap (mark_with_key (key_of found)) (get_or_past v.marks header clear_mark past)))
     ]
 
-module _ (files : Option Files) (g : Geometry) (id : ℕ) (header found : ℕ) (start v w : View) (m : IsMade files g id (Looked (KeyOf header) found) v w) where
+module _ (files : Option Files) (g : Geometry) (id : ℕ) (header found : ℕ) (start v w : View)
+    (m : IsMade files g id (Looked (KeyOf header) found) v w) where
   key_here : mark_at w header ≡ mark_with_key (key_of found) (mark_at v header)
   unfolding noted
   key_here = ap (λ u. mark_at u header) m.view ∙ key_mark header found v
@@ -116,7 +118,9 @@ module _ (files : Option Files) (g : Geometry) (id : ℕ) (header found : ℕ) (
             elim (cases_eq other header) [
               | inl same ↦
                   ap (λ n. bare (mark_at w n).claim) same
-                  ∙ (ap (λ (x : Mark). bare x.claim) key_here ∙ (bare_key (key_of found) (mark_at v header).claim ∙ (ap (λ n. bare (mark_at v n).claim) (sym same) ∙ c.claims other)))
+                  ∙ (ap (λ (x : Mark). bare x.claim) key_here
+                      ∙ (bare_key (key_of found) (mark_at v header).claim
+                      ∙ (ap (λ n. bare (mark_at v n).claim) (sym same) ∙ c.claims other)))
               | inr apart ↦ ap (λ (x : Mark). bare x.claim) (key_there other apart) ∙ c.claims other
             ];
         grants = λ place. made_granted files g id (Looked (KeyOf header) found) v w m place (none-some place) ∙ c.grants place;
@@ -124,7 +128,9 @@ module _ (files : Option Files) (g : Geometry) (id : ℕ) (header found : ℕ) (
             elim (cases_eq other header) [
               | inl same ↦
                   ap (λ n. (mark_at w n).hold) same
-                  ∙ (ap (λ (x : Mark). x.hold) key_here ∙ (known_stays (key_of found) (mark_at v header).hold is_known ∙ (ap (λ n. (mark_at v n).hold) (sym same) ∙ c.holds other)))
+                  ∙ (ap (λ (x : Mark). x.hold) key_here
+                      ∙ (known_stays (key_of found) (mark_at v header).hold is_known
+                      ∙ (ap (λ n. (mark_at v n).hold) (sym same) ∙ c.holds other)))
               | inr apart ↦ ap (λ (x : Mark). x.hold) (key_there other apart) ∙ c.holds other
             ];
       }
@@ -169,38 +175,48 @@ module _ (g : Geometry) (key : Key) (hit : Type 0) (start : View) (before : List
       }
 
   pub right_updated : (word : WordName) (found left : ℕ) (v : View) → IsRight g key hit start before (Updated word found left) v
-  right_updated word found left v = right_else g key hit start before (Updated word found left) v (λ w f e. (let no : ⊥ = cc in no)) (λ h f e. (let no : ⊥ = cc in no))
+  right_updated word found left v = right_else g key hit start before (Updated word found left) v (λ w f e.
+      (let no : ⊥ = cc in no)) (λ h f e. (let no : ⊥ = cc in no))
 
   right_begun : (header found : ℕ) (v : View) → IsRight g key hit start before (step.EvictBegun header found) v
-  right_begun header found v = right_else g key hit start before (step.EvictBegun header found) v (λ w f e. (let no : ⊥ = cc in no)) (λ h f e. (let no : ⊥ = cc in no))
+  right_begun header found v = right_else g key hit start before (step.EvictBegun header found) v (λ w f e.
+      (let no : ⊥ = cc in no)) (λ h f e. (let no : ⊥ = cc in no))
 
   right_released : (header : ℕ) (b : Block) (found : ℕ) (v : View) → IsRight g key hit start before (HeaderReleased header b found) v
-  right_released header b found v = right_else g key hit start before (HeaderReleased header b found) v (λ w f e. (let no : ⊥ = cc in no)) (λ h f e. (let no : ⊥ = cc in no))
+  right_released header b found v = right_else g key hit start before (HeaderReleased header b found) v (λ w f e.
+      (let no : ⊥ = cc in no)) (λ h f e. (let no : ⊥ = cc in no))
 
   right_returned : (b : Block) (found : ℕ) (v : View) → IsRight g key hit start before (step.Returned b found) v
-  right_returned b found v = right_else g key hit start before (step.Returned b found) v (λ w f e. (let no : ⊥ = cc in no)) (λ h f e. (let no : ⊥ = cc in no))
+  right_returned b found v = right_else g key hit start before (step.Returned b found) v (λ w f e.
+      (let no : ⊥ = cc in no)) (λ h f e. (let no : ⊥ = cc in no))
 
   right_missed : (word : WordName) (found : ℕ) (v : View) → IsRight g key hit start before (step.Missed word found) v
-  right_missed word found v = right_else g key hit start before (step.Missed word found) v (λ w f e. (let no : ⊥ = cc in no)) (λ h f e. (let no : ⊥ = cc in no))
+  right_missed word found v = right_else g key hit start before (step.Missed word found) v (λ w f e.
+      (let no : ⊥ = cc in no)) (λ h f e. (let no : ⊥ = cc in no))
 
 -- ---- steps one after the other
 
 module _ (files : Option Files) (g : Geometry) (id : ℕ) (key : Key) where
   pub quiet_none : (v : View) → IsQuiet files g id key v [] v
-  quiet_none v = record { right = refl; before = as_before v; ungranted = λ b f ended. ended; unopened = λ h b c ended. ended; unpublished = refl }
+  quiet_none v = record { right = refl; before = as_before v; ungranted = λ b f ended. ended; unopened = λ h b c
+      ended. ended; unpublished = refl }
 
-  pub quiet_then : (v u w : View) (ss ts : List WordStep) → IsQuiet files g id key v ss u → IsQuiet files g id key u ts w → IsQuiet files g id key v (ss ++ ts) w
+  pub quiet_then : (v u w : View) (ss ts : List WordStep) → IsQuiet files g id key v ss u
+      → IsQuiet files g id key u ts w → IsQuiet files g id key v (ss ++ ts) w
   quiet_then v u w ss ts p q =
       record {
         right = right_parts files g id key ⊥ v u w ss ts p.right p.before q.right;
         before = before_then v u w p.before q.before;
-        ungranted = λ b f there. elim (among_either (Granted b f) ss ts there) [ inl front ↦ p.ungranted b f front | inr rest ↦ q.ungranted b f rest ];
-        unopened = λ h b cells there. elim (among_either (Opened h b cells) ss ts there) [ inl front ↦ p.unopened h b cells front | inr rest ↦ q.unopened h b cells rest ];
+        ungranted = λ b f there. elim (among_either (Granted b f) ss ts there)
+            [ inl front ↦ p.ungranted b f front | inr rest ↦ q.ungranted b f rest ];
+        unopened = λ h b cells there. elim (among_either (Opened h b cells) ss ts there)
+            [ inl front ↦ p.unopened h b cells front | inr rest ↦ q.unopened h b cells rest ];
         unpublished = (let sum = publications-append ss ts in let a = p.unpublished in let b = q.unpublished in omega (arith, sum, a, b));
       }
 
   -- an update of a free word
-  pub quiet_updated : (word : WordName) (found left : ℕ) (v w : View) → IsMade files g id (Updated word found left) v w → IsQuiet files g id key v (Updated word found left ∷ []) w
+  pub quiet_updated : (word : WordName) (found left : ℕ) (v w : View)
+      → IsMade files g id (Updated word found left) v w → IsQuiet files g id key v (Updated word found left ∷ []) w
   quiet_updated word found left v w m =
       record {
         right = (w, m, right_updated g key ⊥ v [] word found left v, refl);
@@ -211,11 +227,15 @@ module _ (files : Option Files) (g : Geometry) (id : ℕ) (key : Key) where
       }
 
   -- touches are right at any moment
-  pub touch_right : (hit : Type 0) (start : View) (before : List WordStep) (header tick touches last : ℕ) (v w : View) → AreMade files g id (touch_steps header tick touches last) v w → AreRight files g id key hit start before v (touch_steps header tick touches last) w
+  pub touch_right : (hit : Type 0) (start : View) (before : List WordStep) (header tick touches last : ℕ)
+      (v w : View) → AreMade files g id (touch_steps header tick touches last) v w
+      → AreRight files g id key hit start before v (touch_steps header tick touches last) w
   touch_right hit start before header tick touches last v w all =
-      (all.0, all.1, right_updated g key hit start before (Touches header) touches _ v, (all.2.0, all.2.1, right_updated g key hit start _ (Last header) last _ all.0, all.2.2))
+      (all.0, all.1, right_updated g key hit start before (Touches header) touches _ v,
+          (all.2.0, all.2.1, right_updated g key hit start _ (Last header) last _ all.0, all.2.2))
 
-  pub touch_before : (header tick touches last : ℕ) (v w : View) → AreMade files g id (touch_steps header tick touches last) v w → IsAsBefore v w
+  pub touch_before : (header tick touches last : ℕ) (v w : View)
+      → AreMade files g id (touch_steps header tick touches last) v w → IsAsBefore v w
   touch_before header tick touches last v w all =
       let one = before_made files g id (Updated (Touches header) touches _) v v all.0 all.1 refl refl (as_before v) in
       let two = before_made files g id (Updated (Last header) last _) v all.0 all.2.0 all.2.1 refl refl one in
@@ -224,25 +244,34 @@ module _ (files : Option Files) (g : Geometry) (id : ℕ) (key : Key) where
 
   -- ---- evictions
 
-  pub quiet_held : (header : ℕ) (ss : List WordStep) (word : ℕ) (v w : View) → HeldSteps header ss word → AreMade files g id ss v w → ((h : ℕ) → mark_at w h ≡ mark_at v h) → ((place : ℕ) → granted_at w place ≡ granted_at v place) → IsQuiet files g id key v ss w
+  pub quiet_held : (header : ℕ) (ss : List WordStep) (word : ℕ) (v w : View) → HeldSteps header ss word
+      → AreMade files g id ss v w → ((h : ℕ) → mark_at w h ≡ mark_at v h)
+      → ((place : ℕ) → granted_at w place ≡ granted_at v place) → IsQuiet files g id key v ss w
   quiet_held header ss word v w (try.shown _ ne) all marks grants =
       record {
         right = (all.0, all.1, right_state g key ⊥ v [] header word v (as_before v), all.2);
-        before = record { claims = λ h. ap (λ (x : Mark). bare x.claim) (marks h); grants = grants; holds = λ h. ap (λ (x : Mark). x.hold) (marks h) };
+        before = record { claims = λ h. ap (λ (x : Mark). bare x.claim) (marks h); grants = grants; holds = λ h. ap
+            (λ (x : Mark). x.hold) (marks h) };
         ungranted = λ b f there. elim there [ inl e ↦ (let no : ⊥ = cc in no) | inr ended ↦ ended ];
         unopened = λ h b cells there. elim there [ inl e ↦ (let no : ⊥ = cc in no) | inr ended ↦ ended ];
         unpublished = refl;
       }
   quiet_held header ss word v w (try.lost seen _ idle ne) all marks grants =
       record {
-        right = (all.0, all.1, right_state g key ⊥ v [] header seen v (as_before v), (all.2.0, all.2.1, right_missed g key ⊥ v _ (State header) word all.0, all.2.2));
-        before = record { claims = λ h. ap (λ (x : Mark). bare x.claim) (marks h); grants = grants; holds = λ h. ap (λ (x : Mark). x.hold) (marks h) };
-        ungranted = λ b f there. elim there [ inl e ↦ (let no : ⊥ = cc in no) | inr more ↦ elim more [ inl e ↦ (let no : ⊥ = cc in no) | inr ended ↦ ended ] ];
-        unopened = λ h b cells there. elim there [ inl e ↦ (let no : ⊥ = cc in no) | inr more ↦ elim more [ inl e ↦ (let no : ⊥ = cc in no) | inr ended ↦ ended ] ];
+        right = (all.0, all.1, right_state g key ⊥ v [] header seen v (as_before v),
+            (all.2.0, all.2.1, right_missed g key ⊥ v _ (State header) word all.0, all.2.2));
+        before = record { claims = λ h. ap (λ (x : Mark). bare x.claim) (marks h); grants = grants; holds = λ h. ap
+            (λ (x : Mark). x.hold) (marks h) };
+        ungranted = λ b f there. elim there [ inl e ↦ (let no : ⊥ = cc in no) | inr more ↦ elim more
+            [ inl e ↦ (let no : ⊥ = cc in no) | inr ended ↦ ended ] ];
+        unopened = λ h b cells there. elim there [ inl e ↦ (let no : ⊥ = cc in no) | inr more ↦ elim more
+            [ inl e ↦ (let no : ⊥ = cc in no) | inr ended ↦ ended ] ];
         unpublished = refl;
       }
 
-  pub quiet_out : (header : ℕ) (ss : List WordStep) (b : Block) (v w : View) → OutSteps header ss b → AreMade files g id ss v w → ((h : ℕ) → mark_at w h ≡ mark_at v h) → ((place : ℕ) → granted_at w place ≡ granted_at v place) → IsQuiet files g id key v ss w
+  pub quiet_out : (header : ℕ) (ss : List WordStep) (b : Block) (v w : View) → OutSteps header ss b
+      → AreMade files g id ss v w → ((h : ℕ) → mark_at w h ≡ mark_at v h)
+      → ((place : ℕ) → granted_at w place ≡ granted_at v place) → IsQuiet files g id key v ss w
   quiet_out header ss b v w (try.out word released given idle) all marks grants =
       record {
         right = (
@@ -253,19 +282,25 @@ module _ (files : Option Files) (g : Geometry) (id : ℕ) (key : Key) where
             all.2.0,
             all.2.1,
             right_begun g key ⊥ v _ header word all.0,
-            (all.2.2.0, all.2.2.1, right_released g key ⊥ v _ header _ released all.2.0, (all.2.2.2.0, all.2.2.2.1, right_returned g key ⊥ v _ _ given all.2.2.0, all.2.2.2.2)),
+            (all.2.2.0, all.2.2.1, right_released g key ⊥ v _ header _ released all.2.0,
+                (all.2.2.2.0, all.2.2.2.1, right_returned g key ⊥ v _ _ given all.2.2.0, all.2.2.2.2)),
           ),
         );
-        before = record { claims = λ h. ap (λ (x : Mark). bare x.claim) (marks h); grants = grants; holds = λ h. ap (λ (x : Mark). x.hold) (marks h) };
+        before = record { claims = λ h. ap (λ (x : Mark). bare x.claim) (marks h); grants = grants; holds = λ h. ap
+            (λ (x : Mark). x.hold) (marks h) };
         ungranted = λ c f there.
             elim there [
               | inl e ↦ (let no : ⊥ = cc in no)
-              | inr more ↦ elim more [ inl e ↦ (let no : ⊥ = cc in no) | inr more2 ↦ elim more2 [ inl e ↦ (let no : ⊥ = cc in no) | inr more3 ↦ elim more3 [ inl e ↦ (let no : ⊥ = cc in no) | inr ended ↦ ended ] ] ]
+              | inr more ↦ elim more [ inl e ↦ (let no : ⊥ = cc in no) | inr more2 ↦ elim more2
+                  [ inl e ↦ (let no : ⊥ = cc in no) | inr more3 ↦
+                  elim more3 [ inl e ↦ (let no : ⊥ = cc in no) | inr ended ↦ ended ] ] ]
             ];
         unopened = λ h c cells there.
             elim there [
               | inl e ↦ (let no : ⊥ = cc in no)
-              | inr more ↦ elim more [ inl e ↦ (let no : ⊥ = cc in no) | inr more2 ↦ elim more2 [ inl e ↦ (let no : ⊥ = cc in no) | inr more3 ↦ elim more3 [ inl e ↦ (let no : ⊥ = cc in no) | inr ended ↦ ended ] ] ]
+              | inr more ↦ elim more [ inl e ↦ (let no : ⊥ = cc in no) | inr more2 ↦ elim more2
+                  [ inl e ↦ (let no : ⊥ = cc in no) | inr more3 ↦
+                  elim more3 [ inl e ↦ (let no : ⊥ = cc in no) | inr ended ↦ ended ] ] ]
             ];
         unpublished = refl;
       }
@@ -306,7 +341,8 @@ learns_none t not (s ∷ ss) are (inl is) = not s are.0 is
 learns_none t not (s ∷ ss) are (inr there) = learns_none t not ss are.1 there
 
 pub consult_releases : (ss : List WordStep) → AreLearnSteps ss → releases ss ≡ 0
-consult_releases ss are = no_releases ss (λ header b found there. learns_none (HeaderReleased header b found) (λ s is e. learn_releases s header b found is e) ss are there)
+consult_releases ss are = no_releases ss (λ header b found there. learns_none (HeaderReleased header b found)
+    (λ s is e. learn_releases s header b found is e) ss are there)
 
 learn_touches : (header : ℕ) (p q : Ranking) (ss : List WordStep) → LearnSteps header p ss q → HasTouch header ss
 learn_touches header p q ss untouched = inl (touches_loaded 0)
@@ -320,7 +356,8 @@ consult_touches (suc n) p q ss h header lt =
     let P : List WordStep → Type 0 = λ l. HasTouch header l in
     subst P (sym h.5)
     (elim (cases_eq header n) [
-      | inl same ↦ let Q : ℕ → Type 0 = λ k. HasTouch k (h.1 ++ h.2) in subst Q (sym same) (touch_back n h.1 h.2 (learn_touches n h.0 q h.2 h.4))
+      | inl same ↦ let Q : ℕ → Type 0 = λ k. HasTouch k (h.1 ++ h.2) in
+          subst Q (sym same) (touch_back n h.1 h.2 (learn_touches n h.0 q h.2 h.4))
       | inr apart ↦ touch_front header h.1 h.2 (consult_touches n p h.0 h.1 h.3 header (omega (arith, lt, apart)))
     ])
 
@@ -341,13 +378,15 @@ module _ (files : Option Files) (g : Geometry) (id : ℕ) (key : Key) (start : V
   learn_before s v w (load_key header found) m c = key_before files g id header found start v w m known c
   learn_before s v w (load_last header found) m c = before_made files g id (Looked (Last header) found) start v w m refl refl c
 
-  learn_walk : (before : List WordStep) (v w : View) (ss : List WordStep) → AreLearnSteps ss → IsAsBefore start v → AreMade files g id ss v w → LearnWalk before v ss w
+  learn_walk : (before : List WordStep) (v w : View) (ss : List WordStep) → AreLearnSteps ss → IsAsBefore start v
+      → AreMade files g id ss v w → LearnWalk before v ss w
   learn_walk before v w [] are c e = let P : View → Type 0 = λ x. IsAsBefore start x in record { right = e; after = subst P (sym e) c }
   learn_walk before v w (s ∷ ss) are c all =
       let rest = learn_walk (before ++ s ∷ []) all.0 w ss are.1 (learn_before s v all.0 are.0 all.1 c) all.2 in
       record { right = (all.0, all.1, learn_right s before v are.0 c, rest.right); after = rest.after }
 
-  pub quiet_consult : (n : ℕ) (p q : Ranking) (ss : List WordStep) (w : View) → ConsultSteps n p ss q → AreMade files g id ss start w → IsQuiet files g id key start ss w
+  pub quiet_consult : (n : ℕ) (p q : Ranking) (ss : List WordStep) (w : View) → ConsultSteps n p ss q
+      → AreMade files g id ss start w → IsQuiet files g id key start ss w
   quiet_consult n p q ss w h all =
       let are = consult_only n p q ss h in
       let walk = learn_walk [] start w ss are (as_before start) all in
@@ -359,4 +398,5 @@ module _ (files : Option Files) (g : Geometry) (id : ℕ) (key : Key) (start : V
         unpublished = learn_publishes ss are;
       }
 
-pub ruleset quiet = (are_known, known_later, no_pin_later, quiet_none, quiet_then, quiet_updated, quiet_held, quiet_out, quiet_consult, consult_releases, consult_touches)
+pub ruleset quiet = (are_known, known_later, no_pin_later, quiet_none, quiet_then, quiet_updated, quiet_held,
+    quiet_out, quiet_consult, consult_releases, consult_touches)

@@ -1,5 +1,6 @@
 -- What is tried to make room for a range, and what comes of it. Source: this project's own.
-use Rattle.std.specs.Prelude.{◌≡◌, ℕ, ◌+◌, ◌-◌, ◌^◌, ◌<◌, ◌≤◌, min, Bool, true, false, List, length, Option, None, Some, slice_index, slice_index_or, slice_set}
+use Rattle.std.specs.Prelude.{◌≡◌, ℕ, ◌+◌, ◌-◌, ◌^◌, ◌<◌, ◌≤◌, min, Bool, true, false, List, length, Option, None, Some, slice_index}
+use Rattle.std.specs.Prelude.{slice_index_or, slice_set}
 use Rattle.buffer_word.specs.declared.key_word.Key.{Key}
 use Rattle.buffer_word.specs.KeyWord.{IsKey}
 use Rattle.pool_model.specs.declared.block.Block.{Block}
@@ -34,7 +35,8 @@ pub record WaysTried (files : Option Files) (g : Geometry) (id : ℕ) (key : Key
       × (last_saw (header_word g (first + way)) (events g ss) ≡ Some (slice_index seen way))
 
 -- That way was freed: its header was released, and no other.
-pub record IsWayFreed (files : Option Files) (g : Geometry) (id : ℕ) (key : Key) (first : ℕ) (old : View) (way : ℕ) (new : View) : Type 0 where
+pub record IsWayFreed (files : Option Files) (g : Geometry) (id : ℕ) (key : Key) (first : ℕ) (old : View) (way : ℕ)
+    (new : View) : Type 0 where
   pub ss : List WordStep
   pub quiet : IsQuiet files g id key old ss new
   pub inside : way < 8
@@ -42,7 +44,8 @@ pub record IsWayFreed (files : Option Files) (g : Geometry) (id : ℕ) (key : Ke
   pub one : releases ss ≡ 1
 
 -- Each way was tried and none freed, and these are the words that the last steps on their states found.
-pub record IsSetTried (files : Option Files) (g : Geometry) (id : ℕ) (key : Key) (first : ℕ) (old : View) (seen : List ℕ) (new : View) : Type 0 where
+pub record IsSetTried (files : Option Files) (g : Geometry) (id : ℕ) (key : Key) (first : ℕ) (old : View)
+    (seen : List ℕ) (new : View) : Type 0 where
   pub ss : List WordStep
   pub quiet : IsQuiet files g id key old ss new
   pub none : releases ss ≡ 0
@@ -70,7 +73,8 @@ abbrev pub counted : List WordStep → ℕ
 counted ss = min (releases ss) (2 ^ 32 - 1)
 
 -- the headers that are marked were tried, after each header's touches were looked at; so many were released
-pub record HeadersTried (files : Option Files) (g : Geometry) (id : ℕ) (key : Key) (old : View) (tried : List Bool) (evicted : ℕ) (new : View) : Type 0 where
+pub record HeadersTried (files : Option Files) (g : Geometry) (id : ℕ) (key : Key) (old : View) (tried : List Bool)
+    (evicted : ℕ) (new : View) : Type 0 where
   pub ss : List WordStep
   pub quiet : IsQuiet files g id key old ss new
   pub touched : (header : ℕ) → header < headers_of g → HasTouch header ss
@@ -97,7 +101,8 @@ unless_full (Bypass PolicyOut) = Some (Bypass PolicyOut)
 
 -- Room was made by steps that released so many headers and left the seat what it had, and then the range was placed, with that answer.
 -- Where there is no room, each header was tried by the former, and the placement asked all arenas.
-pub record MakesRoom (files : Option Files) (g : Geometry) (id : ℕ) (wanted : Wanted) (old new : View) (evicted : ℕ) (placed : Placed) : Type 0 where
+pub record MakesRoom (files : Option Files) (g : Geometry) (id : ℕ) (wanted : Wanted) (old new : View) (evicted : ℕ)
+    (placed : Placed) : Type 0 where
   pub ss : List WordStep
   pub ts : List WordStep
   pub mid : View
@@ -133,7 +138,8 @@ with_freed way wanted = record { key = wanted.key; order = wanted.order; first =
 pub data IsRoom (files : Option Files) (g : Geometry) (id : ℕ) (wanted : Wanted) (old new : View) (evicted : ℕ) : Placed → Type 0 where
   in_free : (way : ℕ) (placed : Placed) → IsFirstFree wanted.states way → MakesRoom files g id wanted old new evicted placed
       → IsRoom files g id wanted old new evicted placed
-  in_freed : (way more : ℕ) (mid : View) (placed : Placed) → NoneFree wanted.states → IsWayFreed files g id wanted.key wanted.first old way mid
+  in_freed : (way more : ℕ) (mid : View) (placed : Placed) → NoneFree wanted.states
+      → IsWayFreed files g id wanted.key wanted.first old way mid
       → MakesRoom files g id (with_freed way wanted) mid new more placed → evicted ≡ min (more + 1) (2 ^ 32 - 1)
       → IsRoom files g id wanted old new evicted placed
   in_none : (seen : List ℕ) → NoneFree wanted.states → IsSetTried files g id wanted.key wanted.first old seen new → evicted ≡ 0

@@ -6,7 +6,9 @@ use Rattle.pool_rule.specs.declared.geometry.WordName.TheVariants.{State, Touche
 use Rattle.pool_rule.specs.declared.view.Event.{Event}
 use Rattle.pool_rule.specs.declared.view.Event.TheVariants.{Stepped, Parted, Joined}
 use Rattle.pool_rule.specs.declared.word_step.WordStep.{WordStep}
-use Rattle.pool_rule.specs.declared.word_step.WordStep.TheVariants.{Looked, LookedAtCell, Missed, Granted, Returned, Opened, Named, Filled, Published, Counted, Uncounted, EvictBegun, HeaderReleased, Updated}
+use Rattle.pool_rule.specs.declared.word_step.WordStep.TheVariants.{Looked, LookedAtCell, Missed, Granted, Returned, Opened, Named}
+use Rattle.pool_rule.specs.declared.word_step.WordStep.TheVariants.{Filled, Published, Counted, Uncounted, EvictBegun, HeaderReleased}
+use Rattle.pool_rule.specs.declared.word_step.WordStep.TheVariants.{Updated}
 use Rattle.pool_rule.specs.WordSteps.{IsIdleWord}
 
 -- a step on the header's touches
@@ -23,7 +25,8 @@ HasTouch header (s ∷ ss) = IsTouching header s ⊎ HasTouch header ss
 pub data IsEnd (header : ℕ) : List WordStep → Type 0 where
   shown : (word : ℕ) (rest : List WordStep) → (IsIdleWord word → ⊥) → IsEnd header (Looked (State header) word ∷ rest)
   lost : (word saw : ℕ) (rest : List WordStep) → saw ≢ word → IsEnd header (Looked (State header) word ∷ Missed (State header) saw ∷ rest)
-  gone : (word released : ℕ) (b : Block) (rest : List WordStep) → IsEnd header (EvictBegun header word ∷ HeaderReleased header b released ∷ rest)
+  gone : (word released : ℕ) (b : Block) (rest : List WordStep)
+      → IsEnd header (EvictBegun header word ∷ HeaderReleased header b released ∷ rest)
 
 abbrev pub HasEnd : ℕ → List WordStep → Type 0
 HasEnd header [] = ⊥

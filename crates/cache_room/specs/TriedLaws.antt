@@ -6,7 +6,9 @@ use Rattle.pool_model.specs.declared.block.Block.{Block}
 use Rattle.pool_rule.specs.declared.geometry.Geometry.{Geometry}
 use Rattle.pool_rule.specs.declared.view.Event.{Event}
 use Rattle.pool_rule.specs.declared.word_step.WordStep.{WordStep}
-use Rattle.pool_rule.specs.declared.word_step.WordStep.TheVariants.{Looked, LookedAtCell, Missed, Granted, Returned, Opened, Named, Filled, Published, Counted, Uncounted, EvictBegun, HeaderReleased, Updated}
+use Rattle.pool_rule.specs.declared.word_step.WordStep.TheVariants.{Looked, LookedAtCell, Missed, Granted, Returned, Opened, Named}
+use Rattle.pool_rule.specs.declared.word_step.WordStep.TheVariants.{Filled, Published, Counted, Uncounted, EvictBegun, HeaderReleased}
+use Rattle.pool_rule.specs.declared.word_step.WordStep.TheVariants.{Updated}
 use Rattle.pool_rule.specs.Layout.{header_word}
 use Rattle.pool_rule.specs.WordSteps.{block_in}
 use Rattle.cache_lookup.specs.Trails.{Among, events}
@@ -77,7 +79,8 @@ held_releases header ss word (try.lost seen _ idle ne) = refl
 pub out_releases : (header : ℕ) (ss : List WordStep) (b : Block) → OutSteps header ss b → releases ss ≡ 1
 out_releases header ss b (try.out word released given idle) = refl
 
-pub out_released : (header : ℕ) (ss : List WordStep) (b : Block) → OutSteps header ss b → (c : Block) × (found : ℕ) × Among (HeaderReleased header c found) ss
+pub out_released : (header : ℕ) (ss : List WordStep) (b : Block) → OutSteps header ss b
+    → (c : Block) × (found : ℕ) × Among (HeaderReleased header c found) ss
 out_released header ss b (try.out word released given idle) = (block_in word, released, inr (inr (inl refl)))
 
 -- steps none of which releases a header
@@ -97,7 +100,8 @@ no_release_by (EvictBegun header found) h = refl
 no_release_by (HeaderReleased header b found) h = absurd (h header b found refl)
 no_release_by (Updated word found left) h = refl
 
-pub no_releases : (ss : List WordStep) → ((header : ℕ) (b : Block) (found : ℕ) → Among (HeaderReleased header b found) ss → ⊥) → releases ss ≡ 0
+pub no_releases : (ss : List WordStep) → ((header : ℕ) (b : Block) (found : ℕ) → Among
+    (HeaderReleased header b found) ss → ⊥) → releases ss ≡ 0
 no_releases [] h = refl
 no_releases (s ∷ ss) h =
     let here = no_release_by s (λ header b found is. h header b found (inl is)) in
@@ -134,7 +138,8 @@ or_none (Some x) = refl
 
 pub last_saw-append : (word : ℕ) (xs ys : List Event) → last_saw word (xs ++ ys) ≡ option_or (last_saw word ys) (last_saw word xs)
 last_saw-append word [] ys = sym (or_none (last_saw word ys))
-last_saw-append word (x ∷ xs) ys = ap (λ o. option_or o (saw_by word x)) (last_saw-append word xs ys) ∙ or_or (last_saw word ys) (last_saw word xs) (saw_by word x)
+last_saw-append word (x ∷ xs) ys = ap (λ o. option_or o (saw_by word x)) (last_saw-append word xs ys) ∙ or_or
+    (last_saw word ys) (last_saw word xs) (saw_by word x)
 
 pub last_saw-back : (word value : ℕ) (xs ys : List Event) → last_saw word ys ≡ Some value → last_saw word (xs ++ ys) ≡ Some value
 last_saw-back word value xs ys e = last_saw-append word xs ys ∙ ap (λ o. option_or o (last_saw word xs)) e
@@ -143,23 +148,34 @@ pub last_saw-front : (word : ℕ) (xs ys : List Event) → last_saw word ys ≡ 
 last_saw-front word xs ys e = last_saw-append word xs ys ∙ ap (λ o. option_or o (last_saw word xs)) e
 
 module _ (g : Geometry) where
-  held_saw : (header : ℕ) (ss : List WordStep) (word : ℕ) → HeldSteps header ss word → last_saw (header_word g header) (events g ss) ≡ Some word
+  held_saw : (header : ℕ) (ss : List WordStep) (word : ℕ) → HeldSteps header ss word
+      → last_saw (header_word g header) (events g ss) ≡ Some word
   held_saw header ss word (try.shown _ ne) = rw (eq-eqb (header_word g header) (header_word g header) refl) refl
   held_saw header ss word (try.lost seen _ idle ne) = rw (eq-eqb (header_word g header) (header_word g header) refl) refl
 
   -- a try of one header has no step on the state of another
-  held_away : (header other : ℕ) (ss : List WordStep) (word : ℕ) → header ≢ other → HeldSteps header ss word → last_saw (header_word g other) (events g ss) ≡ None
+  held_away : (header other : ℕ) (ss : List WordStep) (word : ℕ) → header ≢ other → HeldSteps header ss word
+      → last_saw (header_word g other) (events g ss) ≡ None
   held_away header other ss word apart (try.shown _ ne) =
-      let away : header_word g header ≢ header_word g other = λ e. apart (omega (arith, e)) in rw (ne_eqb (header_word g header) (header_word g other) away) refl
+      let away : header_word g header ≢ header_word g other = λ e. apart (omega (arith, e)) in
+          rw (ne_eqb (header_word g header) (header_word g other) away) refl
   held_away header other ss word apart (try.lost seen _ idle ne) =
-      let away : header_word g header ≢ header_word g other = λ e. apart (omega (arith, e)) in rw (ne_eqb (header_word g header) (header_word g other) away) refl
+      let away : header_word g header ≢ header_word g other = λ e. apart (omega (arith, e)) in
+          rw (ne_eqb (header_word g header) (header_word g other) away) refl
 
-  pub saw_here : (header : ℕ) (xs ys : List WordStep) (word : ℕ) → HeldSteps header ys word → last_saw (header_word g header) (events g (xs ++ ys)) ≡ Some word
+  pub saw_here : (header : ℕ) (xs ys : List WordStep) (word : ℕ) → HeldSteps header ys word
+      → last_saw (header_word g header) (events g (xs ++ ys)) ≡ Some word
   saw_here header xs ys word h =
-      ap (last_saw (header_word g header)) (events-append g xs ys) ∙ last_saw-back (header_word g header) word (events g xs) (events g ys) (held_saw header ys word h)
+      ap (last_saw (header_word g header)) (events-append g xs ys)
+          ∙ last_saw-back (header_word g header) word (events g xs) (events g ys) (held_saw header ys word h)
 
-  pub saw_away : (header other : ℕ) (xs ys : List WordStep) (word value : ℕ) → header ≢ other → HeldSteps header ys word → last_saw (header_word g other) (events g xs) ≡ Some value → last_saw (header_word g other) (events g (xs ++ ys)) ≡ Some value
+  pub saw_away : (header other : ℕ) (xs ys : List WordStep) (word value : ℕ) → header ≢ other
+      → HeldSteps header ys word → last_saw (header_word g other) (events g xs) ≡ Some value
+      → last_saw (header_word g other) (events g (xs ++ ys)) ≡ Some value
   saw_away header other xs ys word value apart h was =
-      ap (last_saw (header_word g other)) (events-append g xs ys) ∙ (last_saw-front (header_word g other) (events g xs) (events g ys) (held_away header other ys word apart h) ∙ was)
+      ap (last_saw (header_word g other)) (events-append g xs ys)
+          ∙ (last_saw-front (header_word g other) (events g xs) (events g ys)
+          (held_away header other ys word apart h) ∙ was)
 
-pub ruleset trials = (ends_front, ends_back, touch_front, touch_back, tried_front, tried_back, tried_over, held_end, out_end, releases-append, held_releases, out_releases, out_released, no_releases, place_releases, last_saw-append, last_saw-back, last_saw-front, saw_here, saw_away)
+pub ruleset trials = (ends_front, ends_back, touch_front, touch_back, tried_front, tried_back, tried_over, held_end,
+    out_end, releases-append, held_releases, out_releases, out_released, no_releases, place_releases, last_saw-append, last_saw-back, last_saw-front, saw_here, saw_away)

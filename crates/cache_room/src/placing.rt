@@ -1,11 +1,12 @@
 //! A range is placed, and buffers are evicted where that is needed.
-ghost use Rattle.std.specs.Prelude.{◌≡◌, ◌<◌, ℕ, MatchOption, length};
+ghost use Rattle.std.specs.Prelude.{◌≡◌, ◌<◌, ℕ, MatchOption, length, slice_index};
 ghost use Rattle.pool_rule.specs.Layout.{headers_of};
 ghost use Rattle.buffer_pool.specs.Pools.{IsSameSeat, IsSeatOf, seat_id, sizes_of, view};
 ghost use Rattle.cache_placement.specs.Free.{IsFirstFree, NoneFree};
 ghost use Rattle.cache_placement.specs.Placements.{HoldsPlaced};
 ghost use Rattle.cache_room.specs.Quiet.{AreKnown};
 ghost use Rattle.cache_room.specs.Rooms.{IsRoom, IsWanted, MakesRoom, with_freed};
+ghost use Rattle.cache_room.specs.Searches.{Ranks, SearchesIf, is_no_room, why_of};
 
 use crate::room::{place_evicting, unless_full};
 use crate::{Room, Wanted, free_way};
@@ -30,7 +31,8 @@ fn first_free(states: &[u64]) -> Option<u32>
 /// The same with a way that was freed.
 fn with_freed(wanted: Wanted, way: u32) -> Wanted
     requires { way < 8 }
-    ensures { result ≡ with_freed way wanted }
+    ensures same { result ≡ with_freed way wanted }
+    ensures free { slice_index result.states way ≡ 8 }
 {
     let Wanted {
         key,
@@ -67,6 +69,8 @@ fn place_in_free<W: World>(
     ensures token { HoldsPlaced pool.now seat.new wanted.now.key result.placed }
     ensures makes { MakesRoom W.files (sizes_of pool.now) (seat_id seat.old) wanted.now (view seat.old) (view seat.new)
         result.evicted result.placed }
+    ensures searched { SearchesIf W.files (sizes_of pool.now) (seat_id seat.old) (is_no_room result.placed) policy.old policy.new
+        (view seat.old) (view seat.new) }
 {
     let arenas = pool.geometry().arenas;
     let placed = place(
@@ -118,6 +122,8 @@ pub fn place_or_evict<W: World>(
     ensures token { HoldsPlaced pool.now seat.new wanted.key result.placed }
     ensures room { IsRoom W.files (sizes_of pool.now) (seat_id seat.old) wanted (view seat.old) (view seat.new) result.evicted
         result.placed }
+    ensures ranked { Ranks W.files (sizes_of pool.now) (seat_id seat.old) wanted.first policy.old policy.new (view seat.old)
+        (view seat.new) (why_of result.placed) }
 {
     match first_free(&wanted.states) {
         Some(_) => return place_in_free(pool, seat, policy, tried, &wanted, bytes),

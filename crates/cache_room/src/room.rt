@@ -1,12 +1,14 @@
 //! A block of full arenas is made free, and the range is placed in it.
-ghost use Rattle.std.specs.Prelude.{◌≡◌, ◌⊎◌, ◌<◌, ◌≤◌, ℕ, List, Bool, true, None, MatchOption, length, slice_set};
-ghost use Rattle.lrfu_policy.specs.Policy.{with_entry};
+ghost use Rattle.std.specs.Prelude.{◌≡◌, ◌⊎◌, ◌<◌, ◌≤◌, ℕ, List, Bool, true, false, None, MatchOption, length, slice_set};
+ghost use Rattle.lrfu_policy.specs.Policy.{Ranking, with_entry};
 ghost use Rattle.pool_rule.specs.declared.view.View.{View};
 ghost use Rattle.pool_rule.specs.Layout.{headers_of};
 ghost use Rattle.buffer_pool.specs.Pools.{IsSameSeat, IsSeatOf, seat_id, sizes_of, view};
+ghost use Rattle.cache_eviction.specs.Order.{IsOneTry, IsVictimWalk, IsWalkOn};
 ghost use Rattle.cache_placement.specs.Placements.{HoldsPlaced};
 ghost use Rattle.cache_room.specs.Quiet.{AreKnown};
 ghost use Rattle.cache_room.specs.Rooms.{AreMarked, HeadersTried, IsWanted, MakesRoom, RoomLeft, unless_full};
+ghost use Rattle.cache_room.specs.Searches.{Searches, WalkLeft, is_no_room};
 
 use crate::Wanted;
 use crate::marks::{is_marked, unmark_all};
@@ -57,6 +59,8 @@ fn place_for<W: World>(
     ensures seat { IsSameSeat pool.now seat.old seat.new }
     ensures entries { length policy.new.entries ≡ length policy.old.entries }
     ensures policy { (policy.new ≡ policy.old) ⊎ (policy.new ≡ with_entry header None policy.old) }
+    ensures one { IsOneTry W.files (sizes_of pool.now) (seat_id seat.old) header policy.old policy.new (view seat.old) (view seat.new) }
+    ensures roomy { MatchOption result (Unit {0}) (λ placed. is_no_room placed ≡ false) }
     ensures token { MatchOption result (Unit {0}) (HoldsPlaced pool.now seat.new wanted.now.key) }
     ensures left { (start : View) (tried : List Bool) → header < length tried
         → HeadersTried W.files (sizes_of pool.now) (seat_id seat.old) wanted.now.key start tried evicted.old (view seat.old)
@@ -99,12 +103,19 @@ fn place_for_victims<W: World>(
     requires wanted { IsWanted W.files (sizes_of pool.now) wanted.now bytes.now }
     ensures seat { IsSameSeat pool.now seat.old seat.new }
     ensures entries { length policy.new.entries ≡ length policy.old.entries }
+    ensures roomy { MatchOption result (Unit {0}) (λ placed. is_no_room placed ≡ false) }
     ensures token { MatchOption result (Unit {0}) (HoldsPlaced pool.now seat.new wanted.now.key) }
     ensures left { (start : View) → HeadersTried W.files (sizes_of pool.now) (seat_id seat.old) wanted.now.key start tried.old
         evicted.old (view seat.old)
         → RoomLeft W.files (sizes_of pool.now) (seat_id seat.old) wanted.now start tried.new evicted.new (view seat.new) result }
+    ensures walk { (told : Ranking) (start : View) → IsVictimWalk W.files (sizes_of pool.now) (seat_id seat.old) 0
+        (headers_of (sizes_of pool.now)) told start None tried.old policy.old (view seat.old)
+        → WalkLeft W.files (sizes_of pool.now) (seat_id seat.old) 0 (headers_of (sizes_of pool.now)) told start tried.new policy.new
+        (view seat.new) result }
 {
     lrfu_policy::laws::walk_ends();
+    lrfu_policy::laws::ranks_are_ordered();
+    lrfu_policy::laws::none_between();
     let mut after: Option<Rank> = None;
     while let Some(rank) = policy.next_victim(after) {
         match place_for(pool, seat, policy, rank.header, wanted, bytes, evicted) {
@@ -132,10 +143,15 @@ fn place_for_others<W: World>(
     requires wanted { IsWanted W.files (sizes_of pool.now) wanted.now bytes.now }
     ensures seat { IsSameSeat pool.now seat.old seat.new }
     ensures entries { length policy.new.entries ≡ length policy.old.entries }
+    ensures roomy { MatchOption result (Unit {0}) (λ placed. is_no_room placed ≡ false) }
     ensures token { MatchOption result (Unit {0}) (HoldsPlaced pool.now seat.new wanted.now.key) }
     ensures left { (start : View) → HeadersTried W.files (sizes_of pool.now) (seat_id seat.old) wanted.now.key start tried.old
         evicted.old (view seat.old)
         → RoomLeft W.files (sizes_of pool.now) (seat_id seat.old) wanted.now start tried.new evicted.new (view seat.new) result }
+    ensures walk { (told : Ranking) (start : View) → IsWalkOn W.files (sizes_of pool.now) (seat_id seat.old) 0
+        (headers_of (sizes_of pool.now)) told start tried.old policy.old (view seat.old)
+        → WalkLeft W.files (sizes_of pool.now) (seat_id seat.old) 0 (headers_of (sizes_of pool.now)) told start tried.new policy.new
+        (view seat.new) result }
     ensures all { MatchOption result (AreMarked (headers_of (sizes_of pool.now)) tried.new) (λ placed. Unit {0}) }
 {
     for header in 0..8 * pool.geometry().sets {
@@ -179,6 +195,8 @@ pub(crate) fn place_evicting<W: World>(
     ensures token { HoldsPlaced pool.now seat.new wanted.now.key result.placed }
     ensures makes { MakesRoom W.files (sizes_of pool.now) (seat_id seat.old) wanted.now (view seat.old) (view seat.new)
         result.evicted result.placed }
+    ensures searched { Searches W.files (sizes_of pool.now) (seat_id seat.old) 0 (headers_of (sizes_of pool.now))
+        (is_no_room result.placed) policy.old policy.new (view seat.old) (view seat.new) }
 {
     consult(pool, seat, policy);
     unmark_all(tried);

@@ -5,6 +5,7 @@ ghost use Rattle.pool_rule.specs.Layout.{headers_of};
 ghost use Rattle.pool_rule.specs.Seats.{granted_at, mark_at};
 ghost use Rattle.buffer_pool.specs.Pools.{IsBlockOf, IsSameSeat, IsSeatOf, seat_id, sizes_of, view};
 ghost use Rattle.cache_eviction.specs.Evictions.{Tries};
+ghost use Rattle.cache_eviction.specs.Order.{IsOneTry};
 
 use buffer_pool::{Held, Pool, PoolSeat};
 use cache_eviction::evict;
@@ -28,6 +29,7 @@ pub(crate) fn try_header<W: World>(
     ensures forgot { OnOk result (policy.new ≡ with_entry header None policy.old) }
     ensures block { IfOk result (λ b. IsBlockOf pool.now b) }
     ensures tries { Tries W.files (sizes_of pool.now) (seat_id seat.old) header (view seat.old) (view seat.new) result }
+    ensures one { IsOneTry W.files (sizes_of pool.now) (seat_id seat.old) header policy.old policy.new (view seat.old) (view seat.new) }
     ensures marks { (other : ℕ) → mark_at (view seat.new) other ≡ mark_at (view seat.old) other }
     ensures grants { (place : ℕ) → granted_at (view seat.new) place ≡ granted_at (view seat.old) place }
 {

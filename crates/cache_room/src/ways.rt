@@ -1,11 +1,15 @@
 //! A way of a full set is freed.
-ghost use Rattle.std.specs.Prelude.{◌≡◌, ◌+◌, ◌<◌, ◌≤◌, ℕ, length};
+ghost use Rattle.std.specs.Prelude.{◌≡◌, ◌+◌, ◌<◌, ◌≤◌, ℕ, None, length};
+ghost use Rattle.std.specs.Option.{is_none};
+ghost use Rattle.lrfu_policy.specs.Policy.{Ranking};
 ghost use Rattle.buffer_word.specs.declared.key_word.Key.{Key};
 ghost use Rattle.pool_rule.specs.declared.view.View.{View};
 ghost use Rattle.pool_rule.specs.Layout.{headers_of};
 ghost use Rattle.buffer_pool.specs.Pools.{IsSameSeat, IsSeatOf, seat_id, sizes_of, view};
 ghost use Rattle.cache_room.specs.Quiet.{AreKnown};
+ghost use Rattle.cache_eviction.specs.Order.{IsVictimWalk, IsWalkOn};
 ghost use Rattle.cache_room.specs.Rooms.{FreesWay, WaysLeft, WaysTried};
+ghost use Rattle.cache_room.specs.Searches.{EndsAll, Searches, WalkLeft};
 
 use crate::marks::is_marked;
 use crate::trying::try_header;
@@ -33,8 +37,13 @@ fn victim_way<W: World>(
     ensures left { (key : Key) (start : View) → WaysTried W.files (sizes_of pool.now) (seat_id seat.old) key first start seen.old
         tried.old (view seat.old)
         → WaysLeft W.files (sizes_of pool.now) (seat_id seat.old) key first start seen.new tried.new (view seat.new) result }
+    ensures walk { (told : Ranking) (start : View) → IsVictimWalk W.files (sizes_of pool.now) (seat_id seat.old) first 8 told start
+        None tried.old policy.old (view seat.old)
+        → WalkLeft W.files (sizes_of pool.now) (seat_id seat.old) first 8 told start tried.new policy.new (view seat.new) result }
 {
     lrfu_policy::laws::walk_ends();
+    lrfu_policy::laws::ranks_are_ordered();
+    lrfu_policy::laws::none_between();
     let mut after: Option<Rank> = None;
     while let Some(rank) = policy.next_among(first, 8, after) {
         let way = rank.header - first;
@@ -69,6 +78,9 @@ fn other_way<W: World>(
     ensures frees { (key : Key) (start : View) → WaysTried W.files (sizes_of pool.now) (seat_id seat.old) key first start seen.old
         tried.old (view seat.old)
         → FreesWay W.files (sizes_of pool.now) (seat_id seat.old) key first start seen.new (view seat.new) result }
+    ensures walk { (told : Ranking) (start : View) → IsWalkOn W.files (sizes_of pool.now) (seat_id seat.old) first 8 told start tried.old
+        policy.old (view seat.old)
+        → EndsAll W.files (sizes_of pool.now) (seat_id seat.old) first 8 (is_none result) told start policy.new (view seat.new) }
 {
     for way in 0..8 {
         if is_marked(tried, way) {
@@ -111,6 +123,8 @@ pub fn free_way<W: World>(
     ensures entries { length policy.new.entries ≡ length policy.old.entries }
     ensures frees { (key : Key) → FreesWay W.files (sizes_of pool.now) (seat_id seat.old) key first (view seat.old) seen.new
         (view seat.new) result }
+    ensures searched { Searches W.files (sizes_of pool.now) (seat_id seat.old) first 8 (is_none result) policy.old policy.new
+        (view seat.old) (view seat.new) }
 {
     consult(pool, seat, policy);
     let mut tried = [false; 8];

@@ -71,7 +71,8 @@ pub record IsWayRaced (g : Geometry) (key : Key) (ss : List WordStep) (saw : ℕ
   pub header : ℕ
   pub way : IsWay g key header
   pub raced : IsHeaderRaced header ss saw
-  pub free : (first_load (header_word g header) (events g ss) ≡ Some 8) ⊎ ((b : Block) × (found : ℕ) × Among (HeaderReleased header b found) ss)
+  pub free : (first_load (header_word g header) (events g ss) ≡ Some 8)
+      ⊎ ((b : Block) × (found : ℕ) × Among (HeaderReleased header b found) ss)
 
 abbrev pub Tells : Geometry → Key → List WordStep → How → Type 0
 Tells g key ss Hit = Unit {0}
@@ -110,7 +111,8 @@ ticked g words = slice_set words (clock_word g) (next_tick (slice_index words (c
 -- The first way that has the key decides: a hit if it is live, and else busy with its state, and then nothing but the clock has changed.
 -- Every other answer comes where no way has it.
 abbrev pub IsLooked : Geometry → Key → List ℕ → View → How → Type 0
-IsLooked g key words new Hit = (way : ℕ) × IsFirstWith g key words (first_way g key) 0 way × IsLiveWord (state_in g words (first_way g key + way))
+IsLooked g key words new Hit = (way : ℕ) × IsFirstWith g key words (first_way g key) 0 way × IsLiveWord (state_in g
+    words (first_way g key + way))
 IsLooked g key words new Filled = IsInNoWay g key words
 IsLooked g key words new (Bypass (Busy word)) =
     (way : ℕ) × IsFirstWith g key words (first_way g key) 0 way × (word ≡ state_in g words (first_way g key + way))
@@ -126,7 +128,8 @@ IsLooked g key words new (Bypass PolicyOut) = ⊥
 -- hit; a grant makes it filled, or the header was lost; an opening makes it filled; and one buffer is published where it is filled, and
 -- else none. `evicted` counts the headers that were released. If the seat knows the words, whether the range is in the cache follows from
 -- them as they are after the tick.
-pub record IsFetch (files : Option Files) (g : Geometry) (id : ℕ) (key : Key) (ss : List WordStep) (old new : View) (ranged : Ranged) : Type 0 where
+pub record IsFetch (files : Option Files) (g : Geometry) (id : ℕ) (key : Key) (ss : List WordStep) (old new : View)
+    (ranged : Ranged) : Type 0 where
   pub right : AreRight files g id key (IsHit ranged.how) old [] old ss new
   pub leaves : Leaves old new ranged
   pub tells : Tells g key ss ranged.how
@@ -152,7 +155,8 @@ pub record IsFailedFetch (files : Option Files) (g : Geometry) (id : ℕ) (key :
 
 -- some steps did
 abbrev pub Fetches : {W : Type 0} → Option Files → Pool W → PoolSeat W → PoolSeat W → Key → Ranged → Type 0
-Fetches files pool old new key ranged = (ss : List WordStep) × IsFetch files (sizes_of pool) (seat_id old) key ss (view old) (view new) ranged
+Fetches files pool old new key ranged = (ss : List WordStep) × IsFetch files (sizes_of pool) (seat_id old) key ss
+    (view old) (view new) ranged
 
 abbrev pub FailsToFetch : {W : Type 0} → Option Files → Pool W → PoolSeat W → PoolSeat W → Key → Type 0
 FailsToFetch files pool old new key = (ss : List WordStep) × IsFailedFetch files (sizes_of pool) (seat_id old) key ss (view old) (view new)

@@ -1,2 +1,3 @@
 pub mod Evictors
 pub mod Fetches
+pub mod Victims

@@ -4,6 +4,7 @@ ghost use Rattle.buffer_pool.specs.Pools.{IsSameSeat, IsSeatOf, seat_id, sizes_o
 ghost use Rattle.cache_placement.specs.Placements.{HoldsPlaced};
 ghost use Rattle.cache_room.specs.Quiet.{AreKnown};
 ghost use Rattle.cache_room.specs.Rooms.{IsRoom, IsWanted};
+ghost use Rattle.cache_room.specs.Searches.{Ranks, why_of};
 ghost use Rattle.evicting_fetch.specs.Evictors.{IsEvictorOf, policy_of};
 ghost use Rattle.range_cache.specs.Caches.{half_life_of, pool_of};
 
@@ -54,6 +55,8 @@ impl Evictor {
         ensures token { HoldsPlaced pool.now seat.new wanted.key result.placed }
         ensures room { IsRoom W.files (sizes_of pool.now) (seat_id seat.old) wanted (view seat.old) (view seat.new) result.evicted
             result.placed }
+        ensures ranked { Ranks W.files (sizes_of pool.now) (seat_id seat.old) wanted.first (policy_of self.old) (policy_of self.new)
+            (view seat.old) (view seat.new) (why_of result.placed) }
     {
         place_or_evict(pool, seat, &mut self.policy, &mut self.tried, wanted, bytes)
     }

@@ -11,6 +11,7 @@ ghost use Rattle.range_cache.specs.Fetches.{IsOfFile, Reads};
 ghost use Rattle.range_cache.specs.Ranges.{IsHit};
 ghost use Rattle.evicting_fetch.specs.Evictors.{IsEvictorOf};
 ghost use Rattle.evicting_fetch.specs.Fetches.{FailsToFetch, Fetches, IsGot};
+ghost use Rattle.evicting_fetch.specs.Victims.{TakesVictims};
 
 use crate::Evictor;
 use buddy_arena::order_for;
@@ -43,8 +44,10 @@ fn fetch_from<W: World, S: Store<W>>(
     ensures evictor { IsEvictorOf pool.now evictor.new }
     ensures got { IfOk result (λ r. IsGot pool.now seat.new key r) }
     ensures fetched { IfOk result (λ r. Fetches W.files pool.now seat.old seat.new key r) }
+    ensures victims { IfOk result (λ r. TakesVictims W.files pool.now seat.old seat.new key evictor.old evictor.new r.how) }
     ensures failed { OnErr result (FailsToFetch W.files pool.now seat.old seat.new key) }
     ensures unchanged { OnErr result (evictor.new ≡ evictor.old) }
+    ensures hit { IfOk result (λ r. IsHit r.how → evictor.new ≡ evictor.old) }
     ensures bytes { IfOk result (λ r. IsHit r.how ⊎ IsContentOf W.files (buffer_key key) scratch.new) }
     ensures reads { IfOk result (λ r. Reads (S.reads store.old) (S.reads store.new) (range_of file key.at key.len) r.how) }
     ensures unread { OnErr result (S.reads store.new ≡ S.reads store.old) }
@@ -119,8 +122,10 @@ pub fn fetch<W: World, S: Store<W>>(
     ensures evictor { IsEvictorOf (pool_of cache.now) evictor.new }
     ensures got { IfOk result (λ r. IsGot (pool_of cache.now) seat.new key r) }
     ensures fetched { IfOk result (λ r. Fetches W.files (pool_of cache.now) seat.old seat.new key r) }
+    ensures victims { IfOk result (λ r. TakesVictims W.files (pool_of cache.now) seat.old seat.new key evictor.old evictor.new r.how) }
     ensures failed { OnErr result (FailsToFetch W.files (pool_of cache.now) seat.old seat.new key) }
     ensures unchanged { OnErr result (evictor.new ≡ evictor.old) }
+    ensures hit { IfOk result (λ r. IsHit r.how → evictor.new ≡ evictor.old) }
     ensures bytes { IfOk result (λ r. IsHit r.how ⊎ IsContentOf W.files (buffer_key key) scratch.new) }
     ensures reads { IfOk result (λ r. Reads (S.reads store.old) (S.reads store.new) (range_of file key.at key.len) r.how) }
     ensures unread { OnErr result (S.reads store.new ≡ S.reads store.old) }

@@ -1,10 +1,13 @@
-use Rattle.std.proofs.Common.{◌+◌, ◌/◌, ℕ, true, sym, subst}
-use Rattle.std.specs.Prelude.{Option, slice_set}
+use Rattle.std.proofs.Common.{◌≡◌, ◌+◌, ◌/◌, ℕ, true, false, sym, subst}
+use Rattle.std.specs.Prelude.{Option, Some, None, MatchOption, slice_set}
 use Rattle.buffer_pool.specs.Pools.{seat_id, sizes_of, view}
 use Rattle.cache_placement.specs.declared.why.Placed.{Placed}
 use Rattle.cache_placement.specs.Placements.{IsPlacement}
-use Rattle.cache_room.specs.Rooms.{RoomLeft}
+use Rattle.cache_room.specs.Rooms.{RoomLeft, unless_full}
+use Rattle.cache_room.specs.Searches.{is_no_room}
 use Rattle.cache_room.proofs.Trials.{header_held, placed_for}
+use Rattle.cache_room.proofs.Walks.{one_placed}
+use Rattle.cache_room.specs.SearchLaws.{not_no_room}
 use Rattle.cache_room.proofs.room.place_for.Goals as goal
 
 pub returns-in-Ok-clause-left : goal.returns-in-Ok-clause-left
@@ -26,3 +29,17 @@ pub returns-in-Err-clause-left : goal.returns-in-Err-clause-left
 returns-in-Err-clause-left g c start tried lt h =
     header_held g.W.World.files (sizes_of c.args.pool.now) (seat_id c.args.seat.now) c.args.wanted.now start tried c.args.evicted.now c.args.header c.requires.header (seat_id c.args.seat.now) c.in-Err.field-0 (view c.args.seat.now) (view c.try_header.new.seat) (λ i. seat_id c.args.seat.now) h
     c.in-Err.ensures.tries c.try_header.ensures.marks c.try_header.ensures.grants
+
+pub returns-in-Ok-clause-one : goal.returns-in-Ok-clause-one
+returns-in-Ok-clause-one g c =
+    let p = c.place.ensures.placed in
+    let from = c.in-Ok.block.place / 64 in
+    one_placed g.W.World.files (sizes_of c.args.pool.now) (seat_id c.args.seat.now) (seat_id c.try_header.new.seat) c.args.header c.args.policy.now c.try_header.new.policy c.args.wanted.now from (from + 1) p.0 (view c.args.seat.now) (view c.try_header.new.seat)
+    (view c.place.new.seat) c.place.result c.try_header.ensures.seat.same c.try_header.ensures.one p.1
+
+pub returns-in-Ok-clause-roomy : goal.returns-in-Ok-clause-roomy
+returns-in-Ok-clause-roomy g c = roomy c.unless_full.result c.unless_full.ensures
+  where
+    roomy : (r : Option Placed) → r ≡ unless_full c.place.result → MatchOption r (Unit {0}) (λ placed. is_no_room placed ≡ false)
+    roomy None e = tt
+    roomy (Some placed) e = not_no_room c.place.result placed (sym e)

@@ -1,4 +1,4 @@
-use Rattle.std.proofs.Common.{◌≡◌, ℕ, ◌+◌, ◌*◌, ◌%◌, ◌^◌, ◌≤◌, List, ◌∷◌, length, refl, sym, ap, ◌∙◌, subst, inr, arith}
+use Rattle.std.proofs.Common.{◌≡◌, ℕ, ◌+◌, ◌*◌, ◌%◌, ◌^◌, ◌≤◌, List, [], ◌∷◌, length, refl, sym, ap, ◌∙◌, subst, inr, arith}
 use Rattle.std.proofs.lemmas.Result.{err_from_is_err_and}
 use Rattle.std.specs.Prelude.{Option, Some, None, IsSome, IsSomeAnd, slice_range}
 use Rattle.buffer_word.specs.declared.key_word.Key.{Key}
@@ -23,6 +23,7 @@ use Rattle.cache_lookup.specs.LookUps.{IsLookUp, IsPinFor}
 use Rattle.cache_lookup.specs.Sets.{first_way}
 use Rattle.cache_placement.specs.declared.why.Placed.{Placed}
 use Rattle.cache_placement.specs.declared.why.Placed.TheVariants as placed
+use Rattle.cache_placement.specs.declared.why.Why.TheVariants.{Busy}
 use Rattle.cache_placement.specs.Free.{IsOrder}
 use Rattle.cache_placement.specs.Placements.{HoldsPlaced}
 use Rattle.cache_room.specs.Quiet.{are_known, no_pin_later, quiet_updated, touch_before}
@@ -34,6 +35,10 @@ use Rattle.range_cache.specs.declared.ranged.Ranged.{Ranged}
 use Rattle.range_cache.specs.Fetches.{IsOfFile}
 use Rattle.range_cache.specs.Ranges.{GripFits, ranged_by}
 use Rattle.evicting_fetch.specs.Fetches.{IsFailedFetch, IsFetch, IsGot, next_tick}
+use Rattle.cache_lookup.specs.Callers.{right_made}
+use Rattle.cache_room.specs.Searches.{why_of}
+use Rattle.evicting_fetch.specs.Evictors.{policy_of}
+use Rattle.evicting_fetch.proofs.Victims.{none_evicts, ranked_in, ranked_of, ranked_on, touch_evicts, unranked}
 use Rattle.evicting_fetch.proofs.Promises.{busy, busy_failed, hit, missing_failed, room_bypassed, room_filled}
 use Rattle.evicting_fetch.proofs.fetching.fetch_from.Goals as goal
 
@@ -262,3 +267,88 @@ returns-in_err-read_at-in-Missing-clause-failed g c =
     let failed : (ss : List WordStep) × IsFailedFetch files sizes id key ss v u1 =
     (steps, missing_failed files sizes id key m.0 v u0 (ticks files sizes id m.0 c.tick-now.result v u0 m.1 m.2) l.0 c.look_up.new.states u1 l.1) in
     rw p.1 failed
+
+pub returns-in-Hit-clause-victims : goal.returns-in-Hit-clause-victims
+returns-in-Hit-clause-victims g c =
+    let files = g.W.World.files in
+    let sizes = sizes_of c.args.pool.now in
+    let id = seat_id c.args.seat.now in
+    let key = c.args.key in
+    let pin = c.in-Hit.pin in
+    let p = policy_of c.args.evictor.now in
+    let v = view c.args.seat.now in
+    let u0 = view c.tick-now.new.seat in
+    let u1 = view c.look_up.new.seat in
+    let x = view c.touch.new.seat in
+    let m = c.tick-now.ensures.made in
+    let l = looks files sizes id (seat_id c.tick-now.new.seat) key c.look_up.new.states u0 u1 (found.Hit pin) c.tick-now.ensures.seat.same c.in-Hit.ensures.looked in
+    let t = touched files sizes id (seat_id c.look_up.new.seat) c.header.result c.tick-now.result m.0 pin u1 x (c.look_up.ensures.seat.same ∙ c.tick-now.ensures.seat.same) c.header.ensures m.1 c.touch.ensures.made in
+    let end = touch_steps (pin_header pin) (next_tick m.0) t.0 t.1 in
+    ranked_of files sizes id (first_way sizes key) p p v x c.pinned.result (ranged_by Hit 0 (grip.Pin pin)) c.pinned.ensures
+    (unranked files sizes id m.0 c.tick-now.result v u0 u1 m.2 l.0 l.1.only (right_made files sizes id key (Unit {0}) u0 [] l.0 u0 u1 l.1.right) (first_way sizes key) p p None end (touch_evicts (pin_header pin) (next_tick m.0) t.0 t.1) x t.2 refl tt)
+
+pub returns-in_ok-read_at-in-Busy-clause-victims : goal.returns-in_ok-read_at-in-Busy-clause-victims
+returns-in_ok-read_at-in-Busy-clause-victims g c =
+    let files = g.W.World.files in
+    let sizes = sizes_of c.args.pool.now in
+    let id = seat_id c.args.seat.now in
+    let key = c.args.key in
+    let word = c.in-Busy.word in
+    let p = policy_of c.args.evictor.now in
+    let v = view c.args.seat.now in
+    let u0 = view c.tick-now.new.seat in
+    let u1 = view c.look_up.new.seat in
+    let m = c.tick-now.ensures.made in
+    let l = looks files sizes id (seat_id c.tick-now.new.seat) key c.look_up.new.states u0 u1 (found.Busy word) c.tick-now.ensures.seat.same c.in-Busy.ensures.looked in
+    ranked_of files sizes id (first_way sizes key) p p v u1 c.bypassed.result (ranged_by (Bypass (Busy word)) 0 (grip.Bypass key)) c.bypassed.ensures
+    (unranked files sizes id m.0 c.tick-now.result v u0 u1 m.2 l.0 l.1.only (right_made files sizes id key ⊥ u0 [] l.0 u0 u1 l.1.right) (first_way sizes key) p p (Some (Busy word)) [] none_evicts u1 refl refl tt)
+
+pub returns-in-Filled-clause-victims : goal.returns-in-Filled-clause-victims
+returns-in-Filled-clause-victims g c =
+    let files = g.W.World.files in
+    let sizes = sizes_of c.args.pool.now in
+    let id = seat_id c.args.seat.now in
+    let key = c.args.key in
+    let pin = c.in-Filled.pin in
+    let n = c.place-placed.result.evicted in
+    let p = policy_of c.args.evictor.now in
+    let q = policy_of c.place-placed.new.self in
+    let v = view c.args.seat.now in
+    let u0 = view c.tick-now.new.seat in
+    let u1 = view c.look_up.new.seat in
+    let w = view c.place-placed.new.seat in
+    let x = view c.touch-in-Filled.new.seat in
+    let m = c.tick-now.ensures.made in
+    let e1 = c.tick-now.ensures.seat.same in
+    let e2 = c.look_up.ensures.seat.same ∙ e1 in
+    let e3 = c.place-placed.ensures.seat.same ∙ e2 in
+    let l = looks files sizes id (seat_id c.tick-now.new.seat) key c.look_up.new.states u0 u1 found.Missing e1 c.in-Missing.ensures.looked in
+    let t = touched files sizes id (seat_id c.place-placed.new.seat) c.header-in-Filled.result c.tick-now.result m.0 pin w x e3 c.header-in-Filled.ensures m.1 c.touch-in-Filled.ensures.made in
+    let end = touch_steps (pin_header pin) (next_tick m.0) t.0 t.1 in
+    let r = ranked_in files sizes c.geometry-geometry.result id (seat_id c.look_up.new.seat) c.first_header-first.result key p q u1 w None (why_of c.place-placed.result.placed) e2 c.first_header-first.ensures.first c.geometry-geometry.ensures.sizes
+    (ap why_of c.in-Filled.is) c.place-placed.ensures.ranked in
+    ranked_of files sizes id (first_way sizes key) p q v x c.pinned-in-Filled.result (ranged_by Filled n (grip.Pin pin)) c.pinned-in-Filled.ensures
+    (ranked_on files sizes id m.0 c.tick-now.result v u0 u1 m.2 l.0 l.1.only (right_made files sizes id key ⊥ u0 [] l.0 u0 u1 l.1.right) (first_way sizes key) p q None end (touch_evicts (pin_header pin) (next_tick m.0) t.0 t.1) w x t.2 r)
+
+pub returns-in-Bypass-clause-victims : goal.returns-in-Bypass-clause-victims
+returns-in-Bypass-clause-victims g c =
+    let files = g.W.World.files in
+    let sizes = sizes_of c.args.pool.now in
+    let id = seat_id c.args.seat.now in
+    let key = c.args.key in
+    let why = c.in-Bypass.why in
+    let n = c.place-placed.result.evicted in
+    let p = policy_of c.args.evictor.now in
+    let q = policy_of c.place-placed.new.self in
+    let v = view c.args.seat.now in
+    let u0 = view c.tick-now.new.seat in
+    let u1 = view c.look_up.new.seat in
+    let w = view c.place-placed.new.seat in
+    let m = c.tick-now.ensures.made in
+    let e1 = c.tick-now.ensures.seat.same in
+    let e2 = c.look_up.ensures.seat.same ∙ e1 in
+    let l = looks files sizes id (seat_id c.tick-now.new.seat) key c.look_up.new.states u0 u1 found.Missing e1 c.in-Missing.ensures.looked in
+    let r = ranked_in files sizes c.geometry-geometry.result id (seat_id c.look_up.new.seat) c.first_header-first.result key p q u1 w (Some why) (why_of c.place-placed.result.placed) e2 c.first_header-first.ensures.first c.geometry-geometry.ensures.sizes
+    (ap why_of c.in-Bypass.is) c.place-placed.ensures.ranked in
+    ranked_of files sizes id (first_way sizes key) p q v w c.bypassed-in-Bypass.result (ranged_by (Bypass why) n (grip.Bypass key)) c.bypassed-in-Bypass.ensures
+    (ranked_on files sizes id m.0 c.tick-now.result v u0 u1 m.2 l.0 l.1.only (right_made files sizes id key ⊥ u0 [] l.0 u0 u1 l.1.right) (first_way sizes key) p q (Some why) [] none_evicts w w refl r)
