@@ -54,7 +54,8 @@ all_away place (s ∷ ss) h = away place s ss h.0 (all_away place ss h.1)
 
 module _ (files : Option Files) (g : Geometry) (id : ℕ) where
   -- the seat's granted blocks stay
-  pub consult_granted : (n : ℕ) (p q : Ranking) (v w : View) → Consults files g id n p q v w → (place : ℕ) → granted_at w place ≡ granted_at v place
+  pub consult_granted : (n : ℕ) (p q : Ranking) (v w : View) → Consults files g id n p q v w → (place : ℕ)
+      → granted_at w place ≡ granted_at v place
   consult_granted n p q v w h place = all_granted files g id h.0 v w h.1 place (all_away place h.0 (consult_only n p q h.0 h.2))
 
   updated_nothing : (header found : ℕ) (v w : View) → IsMade files g id (Updated (Touches header) found 0) v w → HasNothing v → HasNothing w

@@ -36,13 +36,17 @@ as_before v = record { claims = λ header. refl; grants = λ place. refl; holds 
 
 pub before_then : (start v w : View) → IsAsBefore start v → IsAsBefore v w → IsAsBefore start w
 before_then start v w p q =
-    record { claims = λ header. q.claims header ∙ p.claims header; grants = λ place. q.grants place ∙ p.grants place; holds = λ header. q.holds header ∙ p.holds header }
+    record { claims = λ header. q.claims header ∙ p.claims header; grants =
+        λ place. q.grants place ∙ p.grants place; holds = λ header. q.holds header ∙ p.holds header }
 
 -- a step that has to do with no header and no place leaves all that the seat has
-pub before_made : (files : Option Files) (g : Geometry) (id : ℕ) (s : WordStep) (start v w : View) → IsMade files g id s v w → header_of s ≡ None → place_of s ≡ None → IsAsBefore start v → IsAsBefore start w
+pub before_made : (files : Option Files) (g : Geometry) (id : ℕ) (s : WordStep) (start v w : View)
+    → IsMade files g id s v w → header_of s ≡ None → place_of s ≡ None → IsAsBefore start v → IsAsBefore start w
 before_made files g id s start v w m no_header no_place c =
-    let mark : (header : ℕ) → mark_at w header ≡ mark_at v header = λ header. made_mark files g id s v w m header (λ e. none-some header (sym no_header ∙ e)) in
-    let granted : (place : ℕ) → granted_at w place ≡ granted_at v place = λ place. made_granted files g id s v w m place (λ e. none-some place (sym no_place ∙ e)) in
+    let mark : (header : ℕ) → mark_at w header ≡ mark_at v header =
+        λ header. made_mark files g id s v w m header (λ e. none-some header (sym no_header ∙ e)) in
+    let granted : (place : ℕ) → granted_at w place ≡ granted_at v place =
+        λ place. made_granted files g id s v w m place (λ e. none-some place (sym no_place ∙ e)) in
     record {
       claims = λ header. ap (λ (x : Mark). bare x.claim) (mark header) ∙ c.claims header;
       grants = λ place. granted place ∙ c.grants place;
@@ -68,12 +72,15 @@ pub nothing_again : (start v : View) → HasNothing start → IsAsBefore start v
 nothing_again start v h c =
     record {
       marks = λ header.
-          clear_of (mark_at v header) (c.holds header ∙ ap (λ (x : Mark). x.hold) (h.marks header)) (bare_free (mark_at v header).claim (c.claims header ∙ ap (λ (x : Mark). bare x.claim) (h.marks header)));
+          clear_of (mark_at v header) (c.holds header ∙ ap (λ (x : Mark). x.hold) (h.marks header))
+              (bare_free (mark_at v header).claim
+              (c.claims header ∙ ap (λ (x : Mark). bare x.claim) (h.marks header)));
       granted = λ place. c.grants place ∙ h.granted place;
     }
 
 -- a pin of another key is none of this
-pub no_pin_more : (key k : BufferKey) (b : Block) (header : ℕ) (start v : View) → HasNoPinOf key start → HasHoldMore start v header → (mark_at v header).hold ≡ Pinned b (Some k) → k ≢ key → HasNoPinOf key v
+pub no_pin_more : (key k : BufferKey) (b : Block) (header : ℕ) (start v : View) → HasNoPinOf key start
+    → HasHoldMore start v header → (mark_at v header).hold ≡ Pinned b (Some k) → k ≢ key → HasNoPinOf key v
 no_pin_more key k b header start v none more is other h =
     let P : Hold → Type 0 = λ x. IsNoPinOf key x in
     elim (cases_eq h header) [
@@ -86,17 +93,21 @@ no_pin_more key k b header start v none more is other h =
 found_in : (word f : ℕ) (ws : List ℕ) (k : Option (List ℕ)) → k ≡ Some ws → IfSome k (λ l. slice_index l word ≡ f) → slice_index ws word ≡ f
 found_in word f ws k e told = let P : Option (List ℕ) → Type 0 = λ o. IfSome o (λ l. slice_index l word ≡ f) in subst P e told
 
-pub known_found : (files : Option Files) (g : Geometry) (id : ℕ) (s : WordStep) (v w : View) (ws : List ℕ) → v.known ≡ Some ws → IsMade files g id s v w → slice_index ws (word_at g s) ≡ found_by s
+pub known_found : (files : Option Files) (g : Geometry) (id : ℕ) (s : WordStep) (v w : View) (ws : List ℕ)
+    → v.known ≡ Some ws → IsMade files g id s v w → slice_index ws (word_at g s) ≡ found_by s
 known_found files g id s v w ws e m = found_in (word_at g s) (found_by s) ws v.known e m.told
 
-pub known_left : (files : Option Files) (g : Geometry) (id : ℕ) (s : WordStep) (v w : View) (ws : List ℕ) → v.known ≡ Some ws → IsMade files g id s v w → w.known ≡ Some (slice_set ws (word_at g s) (left_by s))
+pub known_left : (files : Option Files) (g : Geometry) (id : ℕ) (s : WordStep) (v w : View) (ws : List ℕ)
+    → v.known ≡ Some ws → IsMade files g id s v w → w.known ≡ Some (slice_set ws (word_at g s) (left_by s))
 known_left files g id s v w ws e m = made_known files g id s v w m ∙ ap (option_map (λ l. slice_set l (word_at g s) (left_by s))) e
 
 -- a load changes no word
-pub known_looked : (files : Option Files) (g : Geometry) (id : ℕ) (word : WordName) (f : ℕ) (v w : View) (ws : List ℕ) → v.known ≡ Some ws → IsMade files g id (Looked word f) v w → w.known ≡ Some ws
+pub known_looked : (files : Option Files) (g : Geometry) (id : ℕ) (word : WordName) (f : ℕ) (v w : View)
+    (ws : List ℕ) → v.known ≡ Some ws → IsMade files g id (Looked word f) v w → w.known ≡ Some ws
 known_looked files g id word f v w ws e m =
     let s = Looked word f in
-    known_left files g id s v w ws e m ∙ ap Some (ap (slice_set ws (index_of g word)) (sym (known_found files g id s v w ws e m)) ∙ set-get_or ws (index_of g word) 0)
+    known_left files g id s v w ws e m ∙ ap Some (ap (slice_set ws (index_of g word))
+        (sym (known_found files g id s v w ws e m)) ∙ set-get_or ws (index_of g word) 0)
 
 -- ---- steps that are right
 
@@ -112,7 +123,8 @@ module _ (g : Geometry) (key : Key) (hit : Type 0) (start : View) (before : List
       }
 
   -- neither a load nor a count
-  pub right_else : (s : WordStep) (v : View) → ((word : WordName) (found : ℕ) → s ≢ Looked word found) → ((header found : ℕ) → s ≢ Counted header found) → IsRight g key hit start before s v
+  pub right_else : (s : WordStep) (v : View) → ((word : WordName) (found : ℕ) → s ≢ Looked word found)
+      → ((header found : ℕ) → s ≢ Counted header found) → IsRight g key hit start before s v
   right_else s v no_load no_count =
       record {
         arena_load = λ a f e. absurd (no_load (Arena a) f e);
@@ -125,18 +137,22 @@ module _ (g : Geometry) (key : Key) (hit : Type 0) (start : View) (before : List
 
 module _ (files : Option Files) (g : Geometry) (id : ℕ) (key : Key) (hit : Type 0) where
   -- the seat made them
-  pub right_made : (start : View) (before : List WordStep) (ss : List WordStep) (v w : View) → AreRight files g id key hit start before v ss w → AreMade files g id ss v w
+  pub right_made : (start : View) (before : List WordStep) (ss : List WordStep) (v w : View)
+      → AreRight files g id key hit start before v ss w → AreMade files g id ss v w
   right_made start before [] v w e = e
   right_made start before (s ∷ ss) v w all = (all.0, all.1, right_made start (before ++ s ∷ []) ss all.0 w all.3)
 
   -- steps and then steps
-  pub right_then : (start : View) (before ss ts : List WordStep) (v u w : View) → AreRight files g id key hit start before v ss u → AreRight files g id key hit start (before ++ ss) u ts w → AreRight files g id key hit start before v (ss ++ ts) w
+  pub right_then : (start : View) (before ss ts : List WordStep) (v u w : View)
+      → AreRight files g id key hit start before v ss u → AreRight files g id key hit start (before ++ ss) u ts w
+      → AreRight files g id key hit start before v (ss ++ ts) w
   right_then start before [] ts v u w e more =
       let P : View × List WordStep → Type 0 = λ z. AreRight files g id key hit start z.1 z.0 ts w in
       subst P (λ i. (e i, append-nil before i)) more
   right_then start before (s ∷ ss) ts v u w all more =
       let P : List WordStep → Type 0 = λ l. AreRight files g id key hit start l u ts w in
-      (all.0, all.1, all.2, right_then start (before ++ s ∷ []) ss ts all.0 u w all.3 (subst P (sym (append_assoc before (s ∷ []) ss)) more))
+      (all.0, all.1, all.2, right_then start (before ++ s ∷ []) ss ts all.0 u w all.3
+          (subst P (sym (append_assoc before (s ∷ []) ss)) more))
 
   shown_later : (before ss : List WordStep) (header : ℕ) → IsShown key ss header → IsShown key (before ++ ss) header
   shown_later before ss header h =
@@ -147,30 +163,41 @@ module _ (files : Option Files) (g : Geometry) (id : ℕ) (key : Key) (hit : Typ
         state_load = among_back (Looked (State header) h.word) before ss h.state_load;
       }
 
-  right_since : (start v0 : View) (before : List WordStep) → IsAsBefore start v0 → (since : List WordStep) (s : WordStep) (v : View) → IsRight g key hit v0 since s v → IsRight g key hit start (before ++ since) s v
+  right_since : (start v0 : View) (before : List WordStep) → IsAsBefore start v0
+      → (since : List WordStep) (s : WordStep) (v : View) → IsRight g key hit v0 since s v
+      → IsRight g key hit start (before ++ since) s v
   right_since start v0 before c since s v r =
       record {
-        arena_load = λ a f e. let p = r.arena_load a f e in ((λ header. p.0 header ∙ c.claims header), (λ place. p.1 place ∙ c.grants place));
+        arena_load = λ a f e. let p = r.arena_load a f e in
+            ((λ header. p.0 header ∙ c.claims header), (λ place. p.1 place ∙ c.grants place));
         state_load = λ h f e header. r.state_load h f e header ∙ c.claims header;
         count = λ h f e. let p = r.count h f e in ((λ header. p.0 header ∙ c.claims header), p.1, shown_later before since h p.2);
         pinned = λ h e. elim (r.pinned h e) [ inl same ↦ inl (same ∙ c.holds h) | inr is ↦ inr is ];
       }
 
   -- steps that are right for a call which begins there are right for one that began before, if the seat has what it had
-  pub right_from : (start v0 : View) (before : List WordStep) → IsAsBefore start v0 → (since ss : List WordStep) (v w : View) → AreRight files g id key hit v0 since v ss w → AreRight files g id key hit start (before ++ since) v ss w
+  pub right_from : (start v0 : View) (before : List WordStep) → IsAsBefore start v0
+      → (since ss : List WordStep) (v w : View) → AreRight files g id key hit v0 since v ss w
+      → AreRight files g id key hit start (before ++ since) v ss w
   right_from start v0 before c since [] v w e = e
   right_from start v0 before c since (s ∷ ss) v w all =
       let P : List WordStep → Type 0 = λ l. AreRight files g id key hit start l all.0 ss w in
-      (all.0, all.1, right_since start v0 before c since s v all.2, subst P (sym (append_assoc before since (s ∷ []))) (right_from start v0 before c (since ++ s ∷ []) ss all.0 w all.3))
+      (all.0, all.1, right_since start v0 before c since s v all.2, subst P
+          (sym (append_assoc before since (s ∷ [])))
+          (right_from start v0 before c (since ++ s ∷ []) ss all.0 w all.3))
 
   -- so a call's steps are those of its parts
-  pub right_parts : (start u w : View) (ss ts : List WordStep) → AreRight files g id key hit start [] start ss u → IsAsBefore start u → AreRight files g id key hit u [] u ts w → AreRight files g id key hit start [] start (ss ++ ts) w
+  pub right_parts : (start u w : View) (ss ts : List WordStep) → AreRight files g id key hit start [] start ss u
+      → IsAsBefore start u → AreRight files g id key hit u [] u ts w
+      → AreRight files g id key hit start [] start (ss ++ ts) w
   right_parts start u w ss ts first c second =
       let P : List WordStep → Type 0 = λ l. AreRight files g id key hit start l u ts w in
       right_then start [] ss ts start u w first (subst P (append-nil ss) (right_from start u ss c [] ts u w second))
 
 -- the answer on which a pin may rest can be weakened
-pub right_any : (files : Option Files) (g : Geometry) (id : ℕ) (key : Key) (hit hit' : Type 0) → (hit → hit') → (start : View) (before ss : List WordStep) (v w : View) → AreRight files g id key hit start before v ss w → AreRight files g id key hit' start before v ss w
+pub right_any : (files : Option Files) (g : Geometry) (id : ℕ) (key : Key) (hit hit' : Type 0) → (hit → hit')
+    → (start : View) (before ss : List WordStep) (v w : View) → AreRight files g id key hit start before v ss w
+    → AreRight files g id key hit' start before v ss w
 right_any files g id key hit hit' f start before [] v w e = e
 right_any files g id key hit hit' f start before (s ∷ ss) v w all =
     let r = all.2 in
@@ -183,4 +210,5 @@ right_any files g id key hit hit' f start before (s ∷ ss) v w all =
     } in
     (all.0, all.1, wider, right_any files g id key hit hit' f start (before ++ s ∷ []) ss all.0 w all.3)
 
-pub ruleset callers = (known_found, known_left, known_looked, as_before, before_then, before_made, nothing_no_pin, nothing_again, no_pin_more, right_arena, right_else, right_made, right_then, right_parts, right_any)
+pub ruleset callers = (known_found, known_left, known_looked, as_before, before_then, before_made, nothing_no_pin,
+    nothing_again, no_pin_more, right_arena, right_else, right_made, right_then, right_parts, right_any)

@@ -2,7 +2,9 @@
 use Rattle.std.specs.Prelude.{◌≡◌, ℕ, ◌+◌, List, [], ◌∷◌, ◌++◌}
 use Rattle.std.proofs.Common.{arith}
 use Rattle.pool_rule.specs.declared.word_step.WordStep.{WordStep}
-use Rattle.pool_rule.specs.declared.word_step.WordStep.TheVariants.{Looked, LookedAtCell, Missed, Granted, Returned, Opened, Named, Filled, Published, Counted, Uncounted, EvictBegun, HeaderReleased, Updated}
+use Rattle.pool_rule.specs.declared.word_step.WordStep.TheVariants.{Looked, LookedAtCell, Missed, Granted, Returned, Opened, Named}
+use Rattle.pool_rule.specs.declared.word_step.WordStep.TheVariants.{Filled, Published, Counted, Uncounted, EvictBegun, HeaderReleased}
+use Rattle.pool_rule.specs.declared.word_step.WordStep.TheVariants.{Updated}
 
 abbrev pub published_by : WordStep → ℕ
 published_by (Looked word found) = 0

@@ -3,7 +3,8 @@ ghost use Rattle.std.specs.Prelude.{◌≡◌, ◌<◌, length};
 ghost use Rattle.buffer_word.specs.KeyWord.{IsKey};
 ghost use Rattle.pool_model.specs.Content.{IsRange};
 ghost use Rattle.pool_rule.specs.Layout.{headers_of};
-ghost use Rattle.buffer_pool.specs.Pools.{HoldsKey, IsContentOf, IsGrantOf, IsSameSeat, IsSeatOf, block_of, buffer_key, seat_id, sizes_of, view};
+ghost use Rattle.buffer_pool.specs.Pools.{HoldsKey, IsContentOf, IsGrantOf, IsSameSeat, IsSeatOf, block_of, buffer_key, seat_id};
+ghost use Rattle.buffer_pool.specs.Pools.{sizes_of, view};
 ghost use Rattle.cache_placement.specs.Steps.{Opens};
 ghost use Rattle.cache_placement.specs.Placements.{HoldsPlaced};
 

@@ -49,7 +49,8 @@ fn place_by_steps<W: World>(
     requires content { IsContentOf W.files (buffer_key key) bytes.now }
     ensures seat { IsSameSeat pool.now seat.old seat.new }
     ensures token { HoldsPlaced pool.now seat.new key result }
-    ensures made { Places W.files (sizes_of pool.now) (seat_id seat.old) key order first states from until (view seat.old) (view seat.new) result }
+    ensures made { Places W.files (sizes_of pool.now) (seat_id seat.old) key order first states from until (view seat.old)
+        (view seat.new) result }
 {
     let way = match first_free(&states) {
         Some(way) => way,

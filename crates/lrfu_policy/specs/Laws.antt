@@ -22,7 +22,8 @@ VictimIsOne =
 -- the rank before. So a walk that begins without a rank and ends with `None` was given every rank.
 abbrev pub NoneBetween : Type 0
 NoneBetween =
-    (first count : ℕ) (entries : List (Option Entry)) (after : Option Rank) (r : Rank) → IsLeast (Among first count) entries after (Some r) →
+    (first count : ℕ) (entries : List (Option Entry)) (after : Option Rank) (r : Rank)
+        → IsLeast (Among first count) entries after (Some r) →
     (h : ℕ) (q : Rank) → Among first count h → h ≢ r.header → rank_at entries h ≡ Some q →
     is_above (Some r) q ≡ false → is_above after q ≡ false
 

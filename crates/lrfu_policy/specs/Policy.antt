@@ -1,5 +1,6 @@
 -- The policy: an entry for each header that has one. Source: after LRFU (Lee and others, 2001); the stepped form is this project's own.
-use Rattle.std.specs.Prelude.{◌==◌, ℕ, ◌+◌, ◌-◌, ◌*◌, ◌/◌, ◌^◌, min, max, if◌then◌else◌, List, Option, Some, None, slice_index_or, slice_set}
+use Rattle.std.specs.Prelude.{◌==◌, ℕ, ◌+◌, ◌-◌, ◌*◌, ◌/◌, ◌^◌, min, max, if◌then◌else◌, List, Option, Some, None, slice_index_or}
+use Rattle.std.specs.Prelude.{slice_set}
 use Rattle.lrfu_policy.specs.declared.entry.Entry.{Entry}
 
 -- the entries by header, and after how many ticks touches count for half

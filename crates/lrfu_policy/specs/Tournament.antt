@@ -1,6 +1,7 @@
 -- How the code keeps the least rank of many headers: a tournament. No contract that callers see speaks of it.
 -- With n headers the nodes are 1 to 2n - 1. The children of node j below n are 2j and 2j + 1, and node n + h is header h's leaf.
-use Rattle.std.specs.Prelude.{◌≡◌, ◌≢◌, ℕ, zero, suc, ◌+◌, ◌*◌, ◌-◌, ◌/◌, ◌<◌, nat_lt, if◌then◌else◌, List, Option, None, length, slice_index_or}
+use Rattle.std.specs.Prelude.{◌≡◌, ◌≢◌, ℕ, zero, suc, ◌+◌, ◌*◌, ◌-◌, ◌/◌, ◌<◌, nat_lt, if◌then◌else◌, List, Option, None, length}
+use Rattle.std.specs.Prelude.{slice_index_or}
 use Rattle.lrfu_policy.specs.declared.entry.Entry.{Entry}
 use Rattle.lrfu_policy.specs.declared.rank.Rank.{Rank}
 use Rattle.lrfu_policy.specs.Rank.{rank_at, lesser_of}

@@ -39,7 +39,9 @@ pub leaves_then : (start v w : View) (ranged : Ranged) → Leaves start v ranged
 leaves_then start v w ranged l c = grip_then start v w ranged.held l c
 
 -- after a fetch the scratch is one from which the range can be read
-readable_by : (files : Option Files) (key : Key) (how : How) (g : Grip) (scratch : List ℕ) → GripFits how g → key_of_grip g ≡ key → (IsHit how ⊎ IsContentOf files (buffer_key key) scratch) → length scratch ≡ key.len → ScratchFits files g scratch
+readable_by : (files : Option Files) (key : Key) (how : How) (g : Grip) (scratch : List ℕ) → GripFits how g
+    → key_of_grip g ≡ key → (IsHit how ⊎ IsContentOf files (buffer_key key) scratch) → length scratch ≡ key.len
+    → ScratchFits files g scratch
 readable_by files key how (grip.Pin pin) scratch fits is bytes len = tt
 readable_by files key Hit (grip.Bypass k) scratch fits is bytes len = absurd fits
 readable_by files key Filled (grip.Bypass k) scratch fits is bytes len = absurd fits
@@ -48,12 +50,18 @@ readable_by files key (Bypass why) (grip.Bypass k) scratch fits is (inr content)
     let P : Key → Type 0 = λ x. (length scratch ≡ x.len) × IsContentOf files (buffer_key x) scratch in
     subst P (sym is) (len, content)
 
-pub readable : {W : Type 0} (files : Option Files) (pool : Pool W) (seat : PoolSeat W) (key : Key) (ranged : Ranged) (scratch : List ℕ) → IsRangedFor pool seat key ranged → (IsHit ranged.how ⊎ IsContentOf files (buffer_key key) scratch) → length scratch ≡ key.len → IsReadable files ranged scratch
+pub readable : {W : Type 0} (files : Option Files) (pool : Pool W) (seat : PoolSeat W) (key : Key) (ranged : Ranged)
+    (scratch : List ℕ) → IsRangedFor pool seat key ranged
+    → (IsHit ranged.how ⊎ IsContentOf files (buffer_key key) scratch) → length scratch ≡ key.len
+    → IsReadable files ranged scratch
 readable files pool seat key ranged scratch r bytes len = readable_by files key ranged.how ranged.held scratch r.grip r.key_is bytes len
 
 -- steps that are right are those by which the trail grew
-pub right_trail : (files : Option Files) (g : Geometry) (id : ℕ) (key : Key) (hit : Type 0) (start : View) (before ss : List WordStep) (v w : View) → AreRight files g id key hit start before v ss w → w.trail ≡ v.trail ++ events g ss
-right_trail files g id key hit start before ss v w right = all_trail files g id ss v w (right_made files g id key hit start before ss v w right)
+pub right_trail : (files : Option Files) (g : Geometry) (id : ℕ) (key : Key) (hit : Type 0) (start : View)
+    (before ss : List WordStep) (v w : View) → AreRight files g id key hit start before v ss w
+    → w.trail ≡ v.trail ++ events g ss
+right_trail files g id key hit start before ss v w right =
+    all_trail files g id ss v w (right_made files g id key hit start before ss v w right)
 
 -- a look-up publishes nothing
 look_published : (s : WordStep) → IsLookStep s → published_by s ≡ 0
