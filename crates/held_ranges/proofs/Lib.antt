@@ -3,3 +3,4 @@ pub mod Grips
 pub mod Gets
 pub mod Rooms
 pub mod Counting
+pub mod CountedSteps

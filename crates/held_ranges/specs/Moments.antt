@@ -16,9 +16,10 @@ use Rattle.range_cache.specs.declared.ranged.How.TheVariants.{Hit, Filled, Bypas
 use Rattle.range_cache.specs.declared.ranged.Ranged.{Ranged}
 use Rattle.range_cache.specs.Caches.{pool_of}
 use Rattle.range_cache.specs.Fetches.{Reads}
-use Rattle.range_cache.specs.Ranges.{IsDone, IsRanged, IsReading, range_key}
+use Rattle.range_cache.specs.Ranges.{IsDone, IsHit, IsRanged, IsReading, range_key}
 use Rattle.evicting_fetch.specs.Evictors.{IsEvictorOf}
 use Rattle.evicting_fetch.specs.Fetches.{FailsToFetch, Fetches}
+use Rattle.evicting_fetch.specs.Victims.{TakesVictims}
 use Rattle.held_ranges.specs.declared.desk.Desk.{Desk}
 use Rattle.held_ranges.specs.declared.held.Held.{Held}
 use Rattle.held_ranges.specs.Deeds.{Deed, gets, misses, drops, how_of, Keys}
@@ -73,7 +74,11 @@ module _ (files : Option Files) {W S : Type 0} (reads : S → Option (List FileR
   pub record IsGot (key : Key) (ranged : Ranged) (old new : Desk W S) : Type 0 where
     pub same : SameDesk old new
     pub between : PoolSeat W
+    pub id : seat_id between ≡ seat_id old.seat.now
     pub fetched : Fetches files (pool_of old.cache.now) old.seat.now between key ranged
+    pub victims : TakesVictims files (pool_of old.cache.now) old.seat.now between key old.evictor.now new.evictor.now ranged.how
+    pub kept : IsHit ranged.how → new.evictor.now ≡ old.evictor.now
+    pub unmoved : ranged.moved ≡ 0
     pub out : IsReadOut files (pool_of old.cache.now) between new.seat.now ranged ranged.how
     pub read : Reads (reads old.store.now) (reads new.store.now) (key_range key) ranged.how
     pub counted : new.totals.now ≡ noted (how_of ranged.how) ranged.evicted ranged.moved old.totals.now
@@ -82,6 +87,7 @@ module _ (files : Option Files) {W S : Type 0} (reads : S → Option (List FileR
   pub record IsMissed (key : Key) (old new : Desk W S) : Type 0 where
     pub same : SameDesk old new
     pub failed : FailsToFetch files (pool_of old.cache.now) old.seat.now new.seat.now key
+    pub kept : new.evictor.now ≡ old.evictor.now
     pub unread : reads new.store.now ≡ reads old.store.now
     pub uncounted : new.totals.now ≡ old.totals.now
 

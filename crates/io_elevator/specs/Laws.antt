@@ -12,6 +12,7 @@ use Rattle.range_cache.specs.declared.cache.Cache.{Cache}
 use Rattle.range_cache.specs.Caches.{pool_of}
 use Rattle.range_cache.specs.Ranges.{IsDone}
 use Rattle.evicting_fetch.specs.Fetches.{FailsToFetch, Fetches}
+use Rattle.evicting_fetch.specs.Victims.{TakesVictims}
 use Rattle.held_ranges.specs.declared.desk.Desk.{Desk}
 use Rattle.held_ranges.specs.Deeds.{Deed, drops, gets, misses}
 use Rattle.held_ranges.specs.Moments.{Does, IsReadOut, Moment, Ran, SameDesk}
@@ -49,7 +50,12 @@ module _ (files : Option Files) {W S : Type 0} (reads : S → Option (List FileR
           record {
             same = record { cache = refl; seat = refl; evictor = refl; store = refl; totals = refl; id = g.same.id };
             between = g.between;
+            id = g.id;
             fetched = subst (λ (c : Cache W). Fetches files (pool_of c) m.desk.seat.now g.between key x.0) e g.fetched;
+            victims = subst (λ (c : Cache W). TakesVictims files (pool_of c) m.desk.seat.now g.between key m.desk.evictor.now k.desk.evictor.now
+                (x.0).how) e g.victims;
+            kept = g.kept;
+            unmoved = g.unmoved;
             out = subst (λ (c : Cache W). IsReadOut files (pool_of c) g.between k.desk.seat.now x.0 (x.0).how) e g.out;
             read = g.read;
             counted = g.counted;
@@ -64,6 +70,7 @@ module _ (files : Option Files) {W S : Type 0} (reads : S → Option (List FileR
           record {
             same = record { cache = refl; seat = refl; evictor = refl; store = refl; totals = refl; id = g.same.id };
             failed = subst (λ (c : Cache W). FailsToFetch files (pool_of c) m.desk.seat.now k.desk.seat.now key) e g.failed;
+            kept = g.kept;
             unread = g.unread;
             uncounted = g.uncounted;
           },

@@ -13,9 +13,10 @@ ghost use Rattle.fragment_folds.specs.Scans.{scan_at};
 ghost use Rattle.fragment_meaning.specs.ScanOutcome.{failed, ScanMeans};
 ghost use Rattle.fragment_scan.specs.Outcomes.{IsOutcomeFor};
 ghost use Rattle.io_elevator.specs.Scratch.{IsFreshFor};
+ghost use Rattle.held_ranges.specs.Counts.{AreStepsCounted};
 ghost use Rattle.scan_inline.specs.Counts.{AreCounted};
 
-use crate::through::scan_through;
+use crate::through::{counts_fit, scan_through};
 use evicting_fetch::Evictor;
 use fragment_outcome::{Failure, Outcome};
 use fragment_plan::{Plan, Scan, Work};
@@ -46,11 +47,12 @@ fn scan_of(plan: &Plan, fragment: u32) -> &Scan
 /// `ReadFault`, which comes only where the store's faults rose in this call. An answer is of the form of the scan's fold, and a failure is
 /// none of a merge. `NoMemory` comes only where memory was refused.
 ///
-/// Hits, fills and bypasses don't fall; and where the store tells its reads, fills and bypasses grow by as many as there are more, unless
-/// one of the two stands at its last value.
+/// No count falls. Where the store tells its reads, fills and bypasses grow by as many as there are more, unless one of the two stands at
+/// its last value. Fills grow by the buffers that the seat published, and evictions by those that it released, unless such a count stands
+/// at its last value.
 ///
 /// Source: Apache ORC specification v1 for what a file has; the outcomes and their order are this project's own.
-#[tactic(auto, using(crate::proofs::Growth::none_counted))]
+#[tactic(auto, using(crate::proofs::Growth::none_counted, crate::proofs::Growth::none_stepped))]
 pub fn scan_with<W: World, S: Store<W>>(
     alloc: Global,
     cache: &Cache<W>,
@@ -76,7 +78,9 @@ pub fn scan_with<W: World, S: Store<W>>(
     ensures is_for { IfOk result (λ o. (scan : Scan) → scan_at plan.now fragment ≡ Some scan → IsOutcomeFor scan o) }
     ensures cause { Cause (S.fault_count store.old) (S.fault_count store.new) (result ≡ Ok (failed failure.ReadFault)) }
     ensures counted { AreCounted (S.reads store.old) (S.reads store.new) totals.old totals.new }
+    ensures steps { AreStepsCounted W.files (pool_of cache.now) seat.old seat.new totals.old totals.new }
 {
+    counts_fit(totals);
     let found = match store.find(scan_of(plan, fragment).file.as_str()) {
         Ok(Some(found)) => found,
         Ok(None) => return Ok(Outcome::Failure(Failure::NoFile)),
@@ -88,7 +92,7 @@ pub fn scan_with<W: World, S: Store<W>>(
 }
 
 /// Does what `scan_with` does, in scratch memory that it makes before, and frees. Nothing is read where memory for that is refused.
-#[tactic(auto, using(crate::proofs::Growth::none_counted))]
+#[tactic(auto, using(crate::proofs::Growth::none_counted, crate::proofs::Growth::none_stepped))]
 pub fn scan_inline<W: World, S: Store<W>>(
     alloc: Global,
     cache: &Cache<W>,
@@ -111,7 +115,9 @@ pub fn scan_inline<W: World, S: Store<W>>(
     ensures is_for { IfOk result (λ o. (scan : Scan) → scan_at plan.now fragment ≡ Some scan → IsOutcomeFor scan o) }
     ensures cause { Cause (S.fault_count store.old) (S.fault_count store.new) (result ≡ Ok (failed failure.ReadFault)) }
     ensures counted { AreCounted (S.reads store.old) (S.reads store.new) totals.old totals.new }
+    ensures steps { AreStepsCounted W.files (pool_of cache.now) seat.old seat.new totals.old totals.new }
 {
+    counts_fit(totals);
     let mut scratch = match Scratch::new(alloc, cache, seat) {
         Ok(scratch) => scratch,
         Err(NoMemory) => return Err(NoMemory),

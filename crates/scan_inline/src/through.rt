@@ -12,7 +12,7 @@ ghost use Rattle.fragment_folds.specs.Scans.{scan_at};
 ghost use Rattle.fragment_meaning.specs.ScanOutcome.{IsOutcomeOn};
 ghost use Rattle.fragment_scan.specs.Outcomes.{IsOutcomeFor};
 ghost use Rattle.fragment_scan.specs.Scanned.{IfDecided, IsReadFault};
-ghost use Rattle.held_ranges.specs.Counts.{last};
+ghost use Rattle.held_ranges.specs.Counts.{AreStepsCounted, last};
 ghost use Rattle.orc_streams.specs.Acts.{Act};
 ghost use Rattle.io_elevator.specs.Elevator.{Did};
 ghost use Rattle.io_elevator.specs.Scratch.{IsFreshFor, IsIdle};
@@ -22,7 +22,7 @@ use evicting_fetch::Evictor;
 use fragment_outcome::Outcome;
 use fragment_plan::Plan;
 use fragment_scan::scan_file;
-use held_ranges::laws::reads_are_counted;
+use held_ranges::laws::{reads_are_counted, steps_are_counted};
 use io_elevator::{Elevator, Scratch};
 use ledgers::CacheTotals;
 use outside::{FileRef, NoMemory, Store, World};
@@ -84,8 +84,11 @@ fn scan_and_end<W: World, S: Store<W>>(
     ensures cause { Cause (S.fault_count elevator.old.store.now) (S.fault_count elevator.new.store.now) (IsReadFault result) }
     ensures counted { AreCounted (S.reads elevator.old.store.now) (S.reads elevator.new.store.now)
         elevator.old.totals.now elevator.new.totals.now }
+    ensures steps { AreStepsCounted W.files (pool_of elevator.old.cache.now) elevator.old.seat.now elevator.new.seat.now
+        elevator.old.totals.now elevator.new.totals.now }
 {
     reads_are_counted::<W, S>();
+    steps_are_counted::<W, S>();
     let outcome = scan_by(alloc, elevator, file, plan, fragment);
     elevator.end();
     outcome
@@ -97,12 +100,14 @@ fn count_fits(count: u64)
 {}
 
 /// So are these.
-fn counts_fit(totals: &CacheTotals)
+pub(crate) fn counts_fit(totals: &CacheTotals)
     ensures { HaveFit totals.now }
 {
     count_fits(totals.hit);
     count_fits(totals.filled);
     count_fits(totals.bypass);
+    count_fits(totals.evicted);
+    count_fits(totals.moved);
 }
 
 /// Scans a file through a cache, as a fragment of a plan that is a scan asks it.
@@ -111,8 +116,9 @@ fn counts_fit(totals: &CacheTotals)
 /// cache, nothing is held, before and after, so it serves the next scan. Where the file is told, the outcome is the scan's on the file's
 /// bytes, unless it is `ReadFault`, which comes only where the store's faults rose in this call.
 ///
-/// Hits, fills and bypasses don't fall; and where the store tells its reads, fills and bypasses grow by as many as there are more, unless
-/// one of the two stands at its last value. `NoMemory` comes only where memory was refused.
+/// No count falls. Where the store tells its reads, fills and bypasses grow by as many as there are more, unless one of the two stands at
+/// its last value. Fills grow by the buffers that the seat published, and evictions by those that it released, unless such a count stands
+/// at its last value. `NoMemory` comes only where memory was refused.
 pub fn scan_through<W: World, S: Store<W>>(
     alloc: Global,
     cache: &Cache<W>,
@@ -142,6 +148,7 @@ pub fn scan_through<W: World, S: Store<W>>(
     ensures is_for { (scan : Scan) → scan_at plan.now fragment ≡ Some scan → IfOk result (IsOutcomeFor scan) }
     ensures cause { Cause (S.fault_count store.old) (S.fault_count store.new) (IsReadFault result) }
     ensures counted { AreCounted (S.reads store.old) (S.reads store.new) totals.old totals.new }
+    ensures steps { AreStepsCounted W.files (pool_of cache.now) seat.old seat.new totals.old totals.new }
 {
     counts_fit(totals);
     let mut elevator = Elevator::new(cache, seat, evictor, store, totals, scratch);

@@ -21,7 +21,11 @@ returns-clause-got g c =
     record {
       same = record { cache = refl; seat = refl; evictor = refl; store = refl; totals = refl; id = c.read_out.ensures.seat.same ∙ r.ensures.seat.same };
       between = c.fetch.new.seat;
+      id = r.ensures.seat.same;
       fetched = r.ensures.fetched;
+      victims = r.ensures.victims;
+      kept = r.ensures.hit;
+      unmoved = r.ensures.got.moved;
       out = c.read_out.ensures.out;
       read = subst R (sym c.requires.file.number) r.ensures.reads;
       counted = c.note.ensures ∙ ap (λ (how : How2). noted how r.ranged.evicted r.ranged.moved c.args.desk.now.totals.now) c.counted_as.ensures;

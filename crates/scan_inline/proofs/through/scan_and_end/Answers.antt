@@ -12,4 +12,13 @@ returns-clause-counted g c =
     let last = c.end.new.self in
     let scanned = c.scan_by-outcome.ensures.acts in
     let did = did_joined g.W.World.files g.S.Store.reads first between last scanned.0 (closes ∷ []) scanned.1 c.end.ensures.acts in
-    ran_counted g.W.World.files g.S.Store.reads (moment_of first) (as_named (desk_of first) (moment_of last)) did.deeds c.reads_are_counted.ensures c.requires.fit did.ran
+    ran_counted g.W.World.files g.S.Store.reads (moment_of first) (as_named (desk_of first) (moment_of last)) did.deeds c.reads_are_counted.ensures c.steps_are_counted.ensures c.requires.fit did.ran
+
+pub returns-clause-steps : goal.returns-clause-steps
+returns-clause-steps g c =
+    let first = c.args.elevator.now in
+    let between = c.scan_by-outcome.new.elevator in
+    let last = c.end.new.self in
+    let scanned = c.scan_by-outcome.ensures.acts in
+    let did = did_joined g.W.World.files g.S.Store.reads first between last scanned.0 (closes ∷ []) scanned.1 c.end.ensures.acts in
+    c.steps_are_counted.ensures (moment_of first) (as_named (desk_of first) (moment_of last)) did.deeds did.ran
