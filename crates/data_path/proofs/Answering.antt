@@ -1,6 +1,7 @@
 -- How the answer of a call follows from what its steps left.
-use Rattle.std.proofs.Common.{◌≡◌, inl, inr, true, false, Bool, ℕ, List, Option, Some, None, Ok, refl, sym, ◌∙◌, ap, subst, if◌then◌else◌}
+use Rattle.std.proofs.Common.{◌≡◌, inl, inr, true, false, Bool, ℕ, List, Option, Some, None, Ok, refl, sym, ◌∙◌, ap, subst, if◌then◌else◌, ◌≤◌, IfSome, arith}
 use Rattle.std.specs.List.{list_any}
+use Rattle.std.proofs.lemmas.Option.{same_Some}
 use Rattle.outside.specs.Cause.{Rose}
 use Rattle.outside.specs.Files.{Files}
 use Rattle.outside.specs.Told.{Extended}
@@ -10,17 +11,22 @@ use Rattle.fragment_outcome.specs.declared.outcome.Outcome.{Outcome}
 use Rattle.fragment_meaning.specs.PlanOutcomes.{PlanMeans}
 use Rattle.plan_run.specs.Laws.{QuietRunsMeanThePlan}
 use Rattle.plan_run.specs.Output.{results_text}
+use Rattle.generated_plan.specs.Text.{file_name, generated_plan}
+use Rattle.generated_plan.specs.Fragments.{plan_over}
+use Rattle.generated_plan.specs.Laws.{GeneratedPlansAreRead}
 use Rattle.command_line.specs.Laws.{WordsMeanOneThing}
+use Rattle.command_line.specs.Options.{AreOptionsOf}
 use Rattle.command_line.specs.declared.settings.Options.{Options}
 use Rattle.data_path.specs.declared.status.Status.{Status}
 use Rattle.data_path.specs.declared.status.Status.TheVariants.{Done, SomeFailed, Usage, BadPlan, WriteFault, PlanFault, NoMemory}
-use Rattle.data_path.specs.Headline.{Answers, Call, Completes, CompletesAlone, IsComplete, IsUnread, Prints, Writes}
+use Rattle.data_path.specs.Headline.{Answers, Call, Completes, CompletesAlone, CompletesGenerated, IsComplete, IsUnread, Prints, Writes}
 use Rattle.data_path.specs.Headline.Prints.{bad_plan, ran}
-use Rattle.data_path.specs.Headline.Writes.{usage, planned}
+use Rattle.data_path.specs.Headline.Writes.{usage, planned, generated as made}
 use Rattle.data_path.specs.Statuses.{is_failure, status_of}
-use Rattle.data_path.specs.Steps.{Written}
+use Rattle.data_path.specs.Steps.{ChosenPlan, NotRead, Written}
+use Rattle.data_path.specs.Steps.ChosenPlan.{stored, generated}
 use Rattle.data_path.specs.Steps.Written.{whole, failed}
-use Rattle.data_path.specs.Usage.{AreBad, AreGood}
+use Rattle.data_path.specs.Usage.{AreGenerated, AreGood}
 
 -- ---- a text that was written
 
@@ -103,23 +109,78 @@ module _ (quiet : QuietRunsMeanThePlan) where
   completes_alone told f g U S bytes before after result a files plan e is quiet_store none =
       answers_complete (Prints told f g U bytes) S ⊥ files plan before after result (prints_whole told f g U bytes files plan e is quiet_store) none (λ x. x) a
 
-  good_not_bad : (one : WordsMeanOneThing) (words : List (List ℕ)) (options : Options) → AreGood words options → AreBad words → ⊥
-  good_not_bad one words options good (inl refused) = (one words options good.options_are).1 refused
-  good_not_bad one words options good (inr asked) =
-      let same : asked.0 ≡ options = (one words options good.options_are).0 asked.0 asked.1 in
-      let a : asked.0.generated ≡ None = subst (λ (o : Options). o.generated ≡ None) (sym same) good.stored in
-      let b = asked.2.1 in
+  -- words that ask for a generated file don't ask for a plan that is read
+  one_or_other : (one : WordsMeanOneThing) (words : List (List ℕ)) (options others : Options) (number : ℕ) → AreGood words options
+      → AreGenerated words others number → ⊥
+  one_or_other one words options others number good asked =
+      let same : others ≡ options = (one words options good.options_are).0 others asked.options_are in
+      let none : others.generated ≡ None = subst (λ (o : Options). o.generated ≡ None) (sym same) good.stored in
+      let some = asked.generated in
       cc
 
   writes_whole : (one : WordsMeanOneThing) (call : Call) (U V : Type 0) (files : Files) (options : Options) (all : List ℕ) (plan : List Fragment) → AreGood call.words options
       → call.left ≡ Some all → plan_of all ≡ Ok plan → call.told ≡ Some files → ¬ Rose call.store_faults call.store_faults'
       → (status : Status) (text : List ℕ) → Writes call U V status text → AreWhole files plan status text
-  writes_whole one call U V files options all plan good left is told quiet_store status text (usage bad u v) = absurd (good_not_bad one call.words options good bad)
+  writes_whole one call U V files options all plan good left is told quiet_store status text (usage bad u v) =
+      absurd ((one call.words options good.options_are).1 bad)
   writes_whole one call U V files options all plan good left is told quiet_store status text (planned {bytes} others took prints) =
       prints_whole call.told call.store_faults call.store_faults' V bytes files plan told (sym (took.same all left) ∙ is) quiet_store status text prints
+  writes_whole one call U V files options all plan good left is told quiet_store status text (made {options = others} {number} asked u prints) =
+      absurd (one_or_other one call.words options others number good asked)
 
   pub completes : (one : WordsMeanOneThing) (call : Call) (U V : Type 0) (S : Type 0) (before after : Option (List ℕ)) (result : Status)
       → Answers (Writes call U V) S (IsUnread call V) before after result → Completes call S before after result
   completes one call U V S before after result a files options all plan good left is told quiet_plan quiet_store none =
       answers_complete (Writes call U V) S (IsUnread call V) files plan before after result (writes_whole one call U V files options all plan good left is told quiet_store)
       none (λ unread. quiet_plan unread.rose) a
+
+  -- ---- of a generated file
+
+  generated_is : GeneratedPlansAreRead → (words : List (List ℕ)) (options : Options) (number : ℕ) → AreGenerated words options number
+      → plan_of (generated_plan number options.rows) ≡ Ok (plan_over (file_name number options.rows) number)
+  generated_is read words options number asked =
+      let in_range : IfSome (Some number) (λ (n : ℕ). n ≤ 1000000) =
+      subst (λ (given : Option ℕ). IfSome given (λ (n : ℕ). n ≤ 1000000)) asked.generated asked.options_are.in_range.generated in
+      let few : number ≤ 1000000 = in_range in
+      read number options.rows (omega (arith, few)) (omega (arith, asked.options_are.in_range.rows))
+
+  writes_generated : (one : WordsMeanOneThing) (read : GeneratedPlansAreRead) (call : Call) (U V : Type 0) (files : Files) (options : Options) (number : ℕ)
+      → AreGenerated call.words options number → call.told ≡ Some files → ¬ Rose call.store_faults call.store_faults'
+      → (status : Status) (text : List ℕ) → Writes call U V status text → AreWhole files (plan_over (file_name number options.rows) number) status text
+  writes_generated one read call U V files options number asked told quiet_store status text (usage bad u v) =
+      absurd ((one call.words options asked.options_are).1 bad)
+  writes_generated one read call U V files options number asked told quiet_store status text (planned {options = others} good took prints) =
+      absurd (one_or_other one call.words others options number good asked)
+  writes_generated one read call U V files options number asked told quiet_store status text (made {options = others} {number = other} given u prints) =
+      let same : others ≡ options = (one call.words options asked.options_are).0 others given.options_are in
+      let number_is : options.generated ≡ Some other = subst (λ (o : Options). o.generated ≡ Some other) same given.generated in
+      let other_is : number ≡ other = same_Some number other (sym asked.generated ∙ number_is) in
+      let bytes_are : generated_plan number options.rows ≡ generated_plan other others.rows =
+      ap (λ (n : ℕ). generated_plan n options.rows) other_is ∙ ap (λ (o : Options). generated_plan other o.rows) (sym same) in
+      prints_whole call.told call.store_faults call.store_faults' V (generated_plan other others.rows) files (plan_over (file_name number options.rows) number) told
+      (subst (λ (bytes : List ℕ). plan_of bytes ≡ Ok (plan_over (file_name number options.rows) number)) bytes_are (generated_is read call.words options number asked))
+      quiet_store status text prints
+
+  pub completes_generated : (one : WordsMeanOneThing) (read : GeneratedPlansAreRead) (call : Call) (U V : Type 0) (S : Type 0) (before after : Option (List ℕ))
+      (result : Status) → Answers (Writes call U V) S (IsUnread call V) before after result → CompletesGenerated call S before after result
+  completes_generated one read call U V S before after result a files options number asked told quiet_store none =
+      answers_complete (Writes call U V) S (IsUnread call V) files (plan_over (file_name number options.rows) number) before after result
+      (writes_generated one read call U V files options number asked told quiet_store) none
+      (λ unread. one_or_other one call.words unread.options options number unread.good asked) a
+
+-- what a chosen plan's bytes print is what there is to write
+pub chosen_writes : (call : Call) (U V : Type 0) (options : Options) (bytes : List ℕ) → AreOptionsOf call.words options
+    → ChosenPlan options call.left call.left' U bytes → (status : Status) (text : List ℕ)
+    → Prints call.told call.store_faults call.store_faults' V bytes status text → Writes call U V status text
+chosen_writes call U V options bytes are (stored none took) status text prints = planned (record { options_are = are; stored = none }) took prints
+chosen_writes call U V options bytes are (generated some same) status text prints = made (record { options_are = are; generated = some }) same prints
+
+-- a plan that wasn't read
+pub not_read : (call : Call) (V : Type 0) (options : Options) → AreOptionsOf call.words options → V
+    → NotRead options call.plan_faults call.plan_faults' → IsUnread call V
+not_read call V options are same why = record {
+  options = options;
+  good = record { options_are = are; stored = why.stored };
+  rose = why.rose;
+  store = same;
+}

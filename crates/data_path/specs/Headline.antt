@@ -9,6 +9,8 @@ use Rattle.fragment_plan.specs.Plan.{plan_of}
 use Rattle.fragment_outcome.specs.declared.outcome.Outcome.{Outcome}
 use Rattle.fragment_meaning.specs.PlanOutcomes.{PlanMeans}
 use Rattle.plan_run.specs.Run.{HasRun}
+use Rattle.generated_plan.specs.Text.{file_name, generated_plan}
+use Rattle.generated_plan.specs.Fragments.{plan_over}
 use Rattle.plan_run.specs.Output.{results_text}
 use Rattle.command_line.specs.Pages.{usage_text}
 use Rattle.command_line.specs.declared.settings.Options.{Options}
@@ -17,7 +19,7 @@ use Rattle.data_path.specs.declared.status.Status.TheVariants.{Done, SomeFailed,
 use Rattle.data_path.specs.FaultLine.{fault_text}
 use Rattle.data_path.specs.PlanBytes.{TookPlan}
 use Rattle.data_path.specs.Statuses.{status_of}
-use Rattle.data_path.specs.Usage.{AreBad, AreGood}
+use Rattle.data_path.specs.Usage.{AreBad, AreGenerated, AreGood}
 
 -- ---- from the plan's bytes on
 
@@ -65,12 +67,16 @@ pub record Call : Type 0 where
   pub store_faults : ℕ
   pub store_faults' : ℕ
 
--- What a call has to write, and its status where the sink takes it: the usage line at words that aren't good, and then source and
--- store are as they were; or what the plan's bytes print.
+-- What a call has to write, and its status where the sink takes it: the usage line at words that are no command line, and then source
+-- and store are as they were; or what the plan's bytes print, which are read from the source, or are those of a generated file, and
+-- then the source is as it was.
 pub data Writes (call : Call) (source_untouched store_untouched : Type 0) : Status → List ℕ → Type 0 where
   usage : AreBad call.words → source_untouched → store_untouched → Writes call source_untouched store_untouched Usage usage_text
   planned : {options : Options} {bytes : List ℕ} {status : Status} {text : List ℕ} → AreGood call.words options
       → TookPlan call.left call.left' bytes → Prints call.told call.store_faults call.store_faults' store_untouched bytes status text
+      → Writes call source_untouched store_untouched status text
+  generated : {options : Options} {number : ℕ} {status : Status} {text : List ℕ} → AreGenerated call.words options number → source_untouched
+      → Prints call.told call.store_faults call.store_faults' store_untouched (generated_plan number options.rows) status text
       → Writes call source_untouched store_untouched status text
 
 -- the words are good, the plan's source failed, and the store is as it was
@@ -100,3 +106,9 @@ Completes call SinkRose before after status = (files : Files) (options : Options
     → AreGood call.words options → call.left ≡ Some all → plan_of all ≡ Ok plan → call.told ≡ Some files
     → ¬ Rose call.plan_faults call.plan_faults' → ¬ Rose call.store_faults call.store_faults' → ¬ SinkRose
     → IsComplete files plan before after status
+
+-- where the words ask for a generated file, files are told and neither store nor sink fails, the results of its plan are written
+abbrev pub CompletesGenerated : Call → Type 0 → Option (List ℕ) → Option (List ℕ) → Status → Type 0
+CompletesGenerated call SinkRose before after status = (files : Files) (options : Options) (number : ℕ)
+    → AreGenerated call.words options number → call.told ≡ Some files → ¬ Rose call.store_faults call.store_faults' → ¬ SinkRose
+    → IsComplete files (plan_over (file_name number options.rows) number) before after status

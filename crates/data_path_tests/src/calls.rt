@@ -105,7 +105,7 @@ const WORDS: [(&[&str], bool); 10] = [
     (&["--executors"], false),
     (&["--executors", "0", "0"], false),
     (&["--min-block", "100"], false),
-    (&["--gen", "7"], false),
+    (&["--gen", "1000001"], false),
     (&["--help"], false),
     (&["s"], false),
 ];
