@@ -9,10 +9,10 @@ use crate::pattern::Pattern;
 use buffer_pool::{WordName, look};
 use evicting_fetch::{Evictor, fetch};
 use outside::{FileRef, RealWorld};
-use range_cache::{Cache, Geometry, How, Key, PoolSeat};
+use range_cache::{Cache, Geometry, How, Key, PoolSeat, Why};
 use std::alloc::Global;
 
-const FILE: FileRef = FileRef {
+pub(crate) const FILE: FileRef = FileRef {
     number: 0,
     len: 1 << 20,
 };
@@ -23,14 +23,30 @@ pub(crate) const GEOMETRY: Geometry = Geometry {
     sets: 1,
 };
 
-/// What a fetch told, and how many buffers it evicted: a hit, a range that was filled, and another or a failed read.
+/// What a fetch told, and how many buffers it evicted: a hit, a range that was filled, no way or no block for it, another answer, and a
+/// failed read.
 pub(crate) const HIT: u64 = 100;
 
 pub(crate) const FILLED: u64 = 200;
 
-pub(crate) const OTHER: u64 = 300;
+pub(crate) const FULL: u64 = 300;
 
-const FAILED: u64 = 400;
+pub(crate) const NO_ROOM: u64 = 400;
+
+const OTHER: u64 = 500;
+
+const FAILED: u64 = 600;
+
+/// What a fetch told.
+pub(crate) fn told(how: &How) -> u64 {
+    match how {
+        How::Hit => HIT,
+        How::Filled => FILLED,
+        How::Bypass(Why::SetFull { states: _ }) => FULL,
+        How::Bypass(Why::NoRoom { words: _ }) => NO_ROOM,
+        How::Bypass(_) => OTHER,
+    }
+}
 
 /// Fetches the range of that number, and lets it go.
 pub(crate) fn get(
@@ -66,14 +82,10 @@ pub(crate) fn get(
         &mut scratch[..len as usize],
     ) {
         Ok(ranged) => {
-            let how = match &ranged.how {
-                How::Hit => HIT,
-                How::Filled => FILLED,
-                How::Bypass(_) => OTHER,
-            };
+            let how = told(&ranged.how);
             let evicted = u64::from(ranged.evicted);
             ranged.done(cache, seat);
-            how + evicted
+            how.wrapping_add(evicted)
         }
         Err(_) => FAILED,
     }

@@ -5,7 +5,7 @@ ghost use Rattle.buffer_pool.specs.Pools.{IsSameSeat, IsSeatOf, sizes_of, view};
 ghost use Rattle.range_cache.specs.Caches.{pool_of};
 ghost use Rattle.evicting_fetch.specs.Evictors.{IsEvictorOf};
 
-use crate::fetches::{FILLED, GEOMETRY, OTHER, get};
+use crate::fetches::{FILLED, GEOMETRY, NO_ROOM, get};
 use crate::pattern::Pattern;
 use buffer_pool::{WordName, look, pin, split, unpin};
 use evicting_fetch::Evictor;
@@ -50,7 +50,7 @@ fn has_no_room(
     let answer = get(cache, seat, evictor, store, 4, 2_048);
     unpin(cache.pool(), third, held);
     let word = look(cache.pool(), third, WordName::Arena(0));
-    answer == OTHER + 2 && word == 0x0000_FFFF_0000_FFFF
+    answer == NO_ROOM + 2 && word == 0x0000_FFFF_0000_FFFF
 }
 
 /// Whether four quarters are brought in, half an arena can't be had while two of them are held, and can be once they are let go.

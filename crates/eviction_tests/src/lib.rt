@@ -4,6 +4,8 @@
 #[cfg(test)]
 mod fetches;
 #[cfg(test)]
+mod full;
+#[cfg(test)]
 mod held;
 #[cfg(test)]
 mod pattern;

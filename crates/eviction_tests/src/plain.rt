@@ -1,4 +1,6 @@
-// A cache of one caller as plain lists: one set of eight headers, one arena, no words, counts or exchanges. Nothing is held between gets.
+// A cache of one caller as plain lists: one set of eight headers, one arena, no words, counts or exchanges. What is held isn't evicted.
+
+use crate::fetches::{FILLED, FULL, HIT, NO_ROOM};
 
 /// A range in the cache.
 #[derive(Clone, Copy)]
@@ -8,6 +10,7 @@ struct Row {
     order: u32,
     touches: u64,
     last: u64,
+    held: u32,
 }
 
 /// What the policy knows of it.
@@ -19,12 +22,13 @@ struct Known {
     last: u64,
 }
 
-/// The cache, its clock, and how many ranges were evicted.
+/// The cache, its clock, and how many ranges were evicted and went past it.
 #[derive(Clone, Copy, Drop)]
 pub(crate) struct Plain {
     half_life: u64,
     clock: u64,
     evicted: u64,
+    passed: u64,
     rows: [Option<Row>; 8],
     known: [Option<Known>; 8],
 }
@@ -35,6 +39,7 @@ pub(crate) fn new_plain(half_life: u64) -> Plain {
         half_life,
         clock: 0,
         evicted: 0,
+        passed: 0,
         rows: [None; 8],
         known: [None; 8],
     }
@@ -122,10 +127,21 @@ fn goes_before(a: Known, b: Known) -> bool {
     left < right || left == right && a.last < b.last
 }
 
-/// Takes the first victim out, and answers its header.
+/// Whether a row may go.
+fn is_idle(row: Option<Row>) -> bool {
+    match row {
+        Some(row) => row.held == 0,
+        None => false,
+    }
+}
+
+/// Takes the first victim out that isn't held, and answers its header.
 fn evict(plain: &mut Plain) -> Option<usize> {
     let mut victim: Option<usize> = None;
     for i in 0..8usize {
+        if !is_idle(plain.rows[i]) {
+            continue;
+        }
         if let Some(known) = plain.known[i] {
             let first = match victim {
                 Some(v) => match plain.known[v & 7] {
@@ -168,7 +184,9 @@ fn block(plain: &mut Plain, order: u32) -> Option<u32> {
     }
     consult(plain);
     for _ in 0..8 {
-        evict(plain);
+        if evict(plain).is_none() {
+            return None;
+        }
         if let Some(place) = buddy(plain, order) {
             return Some(place);
         }
@@ -176,39 +194,72 @@ fn block(plain: &mut Plain, order: u32) -> Option<u32> {
     None
 }
 
-/// Gets a key of that order, and lets it go: whether it was there.
-pub(crate) fn plain_get(plain: &mut Plain, key: u8, order: u32) -> bool {
+/// A header without a row, by an eviction where there is none.
+fn header(plain: &mut Plain) -> Option<usize> {
+    let free = header_with(plain, None);
+    if free.is_none() {
+        consult(plain);
+        return evict(plain);
+    }
+    free
+}
+
+/// Counts a range that goes past the cache.
+fn pass(plain: &mut Plain, how: u64) -> u64 {
+    plain.passed = plain.passed.wrapping_add(1);
+    how
+}
+
+/// Brings a key of that order in, held, where there is a header and a block for it.
+fn fill(plain: &mut Plain, key: u8, order: u32) -> u64 {
+    let Some(header) = header(plain) else {
+        return pass(plain, FULL);
+    };
+    let Some(place) = block(plain, order) else {
+        return pass(plain, NO_ROOM);
+    };
+    plain.rows[header & 7] = Some(Row {
+        key,
+        place,
+        order,
+        touches: 1,
+        last: plain.clock,
+        held: 1,
+    });
+    FILLED
+}
+
+/// Gets a key of that order, which is held then unless it goes past the cache: how it was got.
+pub(crate) fn plain_get(plain: &mut Plain, key: u8, order: u32) -> u64 {
     plain.clock = plain.clock.wrapping_add(1);
     if let Some(header) = header_with(plain, Some(key)) {
         if let Some(mut row) = plain.rows[header & 7] {
             row.touches = row.touches.wrapping_add(1);
             row.last = plain.clock;
+            row.held = row.held.wrapping_add(1);
             plain.rows[header & 7] = Some(row);
         }
-        return true;
+        return HIT;
     }
-    let free = header_with(plain, None);
-    if free.is_none() {
-        consult(plain);
+    fill(plain, key, order)
+}
+
+/// Lets a key go once, if it is held.
+pub(crate) fn plain_drop(plain: &mut Plain, key: u8) {
+    if let Some(header) = header_with(plain, Some(key)) {
+        if let Some(mut row) = plain.rows[header & 7] {
+            row.held = row.held.saturating_sub(1);
+            plain.rows[header & 7] = Some(row);
+        }
     }
-    let header = match free {
-        Some(header) => Some(header),
-        None => evict(plain),
-    };
-    let place = block(plain, order);
-    if let (Some(header), Some(place)) = (header, place) {
-        plain.rows[header & 7] = Some(Row {
-            key,
-            place,
-            order,
-            touches: 1,
-            last: plain.clock,
-        });
-    }
-    false
 }
 
 /// How many ranges were evicted so far.
 pub(crate) fn evicted_so_far(plain: &Plain) -> u64 {
     plain.evicted
+}
+
+/// Whether it was used so much: so many gets, evictions, and ranges past the cache.
+pub(crate) fn was_used(plain: &Plain, gets: u64, evicted: u64, passed: u64) -> bool {
+    plain.clock >= gets && plain.evicted >= evicted && plain.passed >= passed
 }

@@ -1,47 +1,99 @@
-// Ten thousand gets by a generator, and the plain machine beside them: answers, evictions and reads are equal.
-ghost use Rattle.std.specs.Prelude.{◌≡◌, ◌≤◌};
+// Ten thousand steps by a generator: three seats get ranges, hold them for a while and let them go, and a plain machine beside them does
+// the same. Answers, evictions and reads are equal.
+ghost use Rattle.std.specs.Prelude.{◌≡◌, ◌≤◌, true, IfSome};
 ghost use Rattle.pool_rule.specs.Seats.{HasNothing};
 ghost use Rattle.buffer_pool.specs.Pools.{IsSameSeat, IsSeatOf, sizes_of, view};
 ghost use Rattle.range_cache.specs.Caches.{pool_of};
+ghost use Rattle.range_cache.specs.Ranges.{IsRanged, Leaves};
 ghost use Rattle.evicting_fetch.specs.Evictors.{IsEvictorOf};
 
-use crate::fetches::{FILLED, GEOMETRY, HIT, get};
+use crate::fetches::{FILE, GEOMETRY, HIT, told};
 use crate::pattern::Pattern;
-use crate::plain::{Plain, evicted_so_far, new_plain, plain_get};
-use evicting_fetch::Evictor;
+use crate::plain::{Plain, evicted_so_far, new_plain, plain_drop, plain_get, was_used};
+use buffer_pool::split;
+use evicting_fetch::{Evictor, fetch};
 use outside::RealWorld;
-use range_cache::{Cache, PoolSeat};
+use rand_core::{Rng, SeedableRng};
+use rand_xoshiro::SplitMix64;
+use range_cache::{Cache, Key, PoolSeat, Ranged};
 use std::alloc::Global;
 
-/// The next number of a linear congruential generator.
-fn next(state: u64) -> u64 {
-    state
-        .wrapping_mul(6364136223846793005)
-        .wrapping_add(1442695040888963407)
+/// The number of a range, of sixteen. The low half of them is drawn three times as often as the other.
+fn number_of(drawn: u64) -> u8
+    ensures { result ≤ 15 }
+{
+    let low = (drawn >> 60) as u8;
+    let high = (drawn >> 56 & 15) as u8;
+    if low < 8 { low } else { high }
 }
 
-/// The bytes of a block of an order up to 5.
-fn len_of(order: u32) -> u32
-    ensures { (64 ≤ result) × (result ≤ 2048) }
+/// The bytes of a block of the order of that range, from the smallest to the whole arena.
+fn order_of(number: u8) -> u32 {
+    u32::from(number % 7)
+}
+
+fn len_of(number: u8) -> u32
+    ensures { (64 ≤ result) × (result ≤ 4096) }
 {
-    match order {
+    match order_of(number) {
         0 => 64,
         1 => 128,
         2 => 256,
         3 => 512,
         4 => 1_024,
-        _ => 2_048,
+        5 => 2_048,
+        _ => 4_096,
     }
 }
 
-/// Whether one get of both gives the same, by the same evictions and reads.
-fn agree(
+/// One get of both, if they give the same by the same evictions and reads. The range is held then.
+fn got(
     cache: &Cache<RealWorld>,
     seat: &mut PoolSeat<RealWorld>,
     evictor: &mut Evictor,
     store: &mut Pattern,
     plain: &mut Plain,
-    drawn: u64,
+    number: u8,
+) -> Option<Ranged>
+    requires seat { IsSeatOf (pool_of cache.now) seat.old }
+    requires evictor { IsEvictorOf (pool_of cache.now) evictor.old }
+    requires sizes { (sizes_of (pool_of cache.now)).min_block ≡ 64 }
+    requires nothing { HasNothing (view seat.old) }
+    requires number { number ≤ 15 }
+    ensures seat { IsSameSeat (pool_of cache.now) seat.old seat.new }
+    ensures evictor { IsEvictorOf (pool_of cache.now) evictor.new }
+    ensures ranged { IfSome result (λ r. IsRanged (pool_of cache.now) seat.new r) }
+    ensures leaves { IfSome result (λ r. Leaves (view seat.old) (view seat.new) r) }
+{
+    let (evicted, reads) = (evicted_so_far(plain), store.reads);
+    let how = plain_get(plain, number, order_of(number));
+    let more = evicted_so_far(plain).wrapping_sub(evicted);
+    let len = len_of(number);
+    let key = Key {
+        file: 0,
+        at: 2_048 * u64::from(number),
+        len,
+    };
+    let mut scratch = [0; 4_096];
+    let scratch = &mut scratch[..len as usize];
+    let ranged = fetch(cache, seat, evictor, store, key, FILE, scratch).ok()?;
+    let once = if how == HIT { 0 } else { 1 };
+    let same = told(&ranged.how) == how && u64::from(ranged.evicted) == more;
+    if same && store.reads == reads.wrapping_add(once) {
+        return Some(ranged);
+    }
+    ranged.done(cache, seat);
+    None
+}
+
+/// Gets by a third seat, each let go at once.
+fn inner(
+    cache: &Cache<RealWorld>,
+    seat: &mut PoolSeat<RealWorld>,
+    evictor: &mut Evictor,
+    store: &mut Pattern,
+    plain: &mut Plain,
+    rng: &mut SplitMix64,
 ) -> bool
     requires seat { IsSeatOf (pool_of cache.now) seat.old }
     requires evictor { IsEvictorOf (pool_of cache.now) evictor.old }
@@ -49,65 +101,122 @@ fn agree(
     requires nothing { HasNothing (view seat.old) }
     ensures seat { IsSameSeat (pool_of cache.now) seat.old seat.new }
     ensures evictor { IsEvictorOf (pool_of cache.now) evictor.new }
-    ensures nothing { HasNothing (view seat.new) }
+    ensures nothing { result ≡ true → HasNothing (view seat.new) }
 {
-    let low = (drawn >> 60) as u8;
-    let high = (drawn >> 56 & 15) as u8;
-    let number = if low < 8 { low } else { high };
-    let order = u32::from(number % 6);
-    let evicted = evicted_so_far(plain);
-    let reads = store.reads;
-    let was_there = plain_get(plain, number, order);
-    let answer = get(cache, seat, evictor, store, number, len_of(order));
-    let more = evicted_so_far(plain).wrapping_sub(evicted);
-    if was_there {
-        answer == HIT && store.reads == reads
-    } else {
-        answer == FILLED.wrapping_add(more) && store.reads == reads.wrapping_add(1)
+    for _ in 0..rng.next_u64() & 3 {
+        let number = number_of(rng.next_u64());
+        let Some(ranged) = got(cache, seat, evictor, store, plain, number) else {
+            return false;
+        };
+        ranged.done(cache, seat);
+        plain_drop(plain, number);
     }
+    true
 }
 
-/// Whether they agree at so many gets.
-fn all_agree(
+/// Gets by a second seat, each held while the third gets.
+fn middle(
     cache: &Cache<RealWorld>,
     seat: &mut PoolSeat<RealWorld>,
+    third: &mut PoolSeat<RealWorld>,
     evictor: &mut Evictor,
-    half_life: u64,
-    steps: u32,
+    store: &mut Pattern,
+    plain: &mut Plain,
+    rng: &mut SplitMix64,
 ) -> bool
     requires seat { IsSeatOf (pool_of cache.now) seat.old }
+    requires third { IsSeatOf (pool_of cache.now) third.old }
     requires evictor { IsEvictorOf (pool_of cache.now) evictor.old }
     requires sizes { (sizes_of (pool_of cache.now)).min_block ≡ 64 }
     requires nothing { HasNothing (view seat.old) }
+    requires free { HasNothing (view third.old) }
+    ensures seat { IsSameSeat (pool_of cache.now) seat.old seat.new }
+    ensures third { IsSameSeat (pool_of cache.now) third.old third.new }
+    ensures evictor { IsEvictorOf (pool_of cache.now) evictor.new }
+    ensures nothing { result ≡ true → HasNothing (view seat.new) }
+    ensures free { result ≡ true → HasNothing (view third.new) }
 {
+    for _ in 0..rng.next_u64() & 3 {
+        let number = number_of(rng.next_u64());
+        let Some(ranged) = got(cache, seat, evictor, store, plain, number) else {
+            return false;
+        };
+        let agree = inner(cache, third, evictor, store, plain, rng);
+        ranged.done(cache, seat);
+        plain_drop(plain, number);
+        if !agree {
+            return false;
+        }
+    }
+    true
+}
+
+/// Gets by a first seat, each held while the others get.
+fn outer(
+    cache: &Cache<RealWorld>,
+    seat: &mut PoolSeat<RealWorld>,
+    second: &mut PoolSeat<RealWorld>,
+    third: &mut PoolSeat<RealWorld>,
+    evictor: &mut Evictor,
+    store: &mut Pattern,
+    plain: &mut Plain,
+    rng: &mut SplitMix64,
+) -> bool
+    requires seat { IsSeatOf (pool_of cache.now) seat.old }
+    requires second { IsSeatOf (pool_of cache.now) second.old }
+    requires third { IsSeatOf (pool_of cache.now) third.old }
+    requires evictor { IsEvictorOf (pool_of cache.now) evictor.old }
+    requires sizes { (sizes_of (pool_of cache.now)).min_block ≡ 64 }
+    requires nothing { HasNothing (view seat.old) }
+    requires free { HasNothing (view second.old) }
+    requires third_free { HasNothing (view third.old) }
+{
+    for _ in 0..1_100 {
+        let number = number_of(rng.next_u64());
+        let Some(ranged) = got(cache, seat, evictor, store, plain, number) else {
+            return false;
+        };
+        let agree = middle(cache, second, third, evictor, store, plain, rng);
+        ranged.done(cache, seat);
+        plain_drop(plain, number);
+        if !agree {
+            return false;
+        }
+    }
+    true
+}
+
+fn both_agree(alloc: Global, half_life: u64) -> bool {
     let mut store = Pattern {
         reads: 0,
         failing: 0,
         faults: 0,
     };
-    let mut plain = new_plain(half_life);
-    let mut state = 1;
-    for _ in 0..steps {
-        state = next(state);
-        if !agree(cache, seat, evictor, &mut store, &mut plain, state) {
-            return false;
-        }
-    }
-    evicted_so_far(&plain) > 1_000
-}
-
-fn both_agree(alloc: Global, half_life: u64) -> bool {
-    let Ok((cache, mut seat)) = Cache::<RealWorld>::create(alloc, GEOMETRY, half_life, 1) else {
+    let Ok((cache, mut seat)) = Cache::<RealWorld>::create(alloc, GEOMETRY, half_life, 3) else {
         return false;
     };
     let Ok(mut evictor) = Evictor::new(alloc, &cache) else {
         return false;
     };
-    all_agree(&cache, &mut seat, &mut evictor, half_life, 10_000)
+    let mut second = split(cache.pool(), &mut seat, 2);
+    let mut third = split(cache.pool(), &mut second, 1);
+    let mut plain = new_plain(half_life);
+    let mut rng = SplitMix64::seed_from_u64(1);
+    let agree = outer(
+        &cache,
+        &mut seat,
+        &mut second,
+        &mut third,
+        &mut evictor,
+        &mut store,
+        &mut plain,
+        &mut rng,
+    );
+    agree && was_used(&plain, 5_000, 1_000, 500)
 }
 
 #[test]
-fn ten_thousand_gets_are_those_of_the_plain_machine(rt: HostRuntime) {
+fn ten_thousand_steps_are_those_of_the_plain_machine(rt: HostRuntime) {
     assert!(rt; both_agree(rt.alloc(), 0));
     assert!(rt; both_agree(rt.alloc(), 300));
 }
