@@ -21,7 +21,6 @@ use Rattle.orc_streams.specs.Layout.{layout_in, plan_at, streams_in}
 use Rattle.orc_streams.specs.Openings.{spans_of, openings_at, OpensAll}
 use Rattle.orc_rows.specs.declared.judge.Refused.{Refused}
 use Rattle.orc_rows.specs.Judging.{IsContent, FindsOne, FindsFirst, JudgeEnds, JudgeOrder, JudgedUpTo, EachJudgeOrder, JudgesOne, JudgesEach}
-use Rattle.orc_rows.specs.Starting.{layouts_in}
 use Rattle.orc_rows.specs.Rows.{FirstColumnFails}
 use Rattle.orc_rows.proofs.AnyPlace.{column_anywhere, fails_anywhere}
 
@@ -117,7 +116,7 @@ module _ {S : Type 0} (did : S → List Act → S → Type 0) (count : S → ℕ
     module _ (column : ReadColumn) (columns : List ReadColumn) (before between : S) where
       pub first_unread : (fault : OpenFault) → JudgesOne did count files file index (layout_in footer column) rows before between (Err fault)
           → JudgesEach did count files file index footer (column ∷ columns) rows before between (Err fault)
-      first_unread fault j = record { acts = j.acts; by = j.by; order = JudgedUpTo.here j.order; cause = record { later = j.cause.later; failed = λ f. j.cause.failed f }; content = tt; told = λ bytes has. tt }
+      first_unread fault j = record { acts = j.acts; by = j.by; order = (column.number, JudgedUpTo.here j.order); cause = record { later = j.cause.later; failed = λ f. j.cause.failed f }; content = tt; told = λ bytes has. tt }
 
       pub first_refused : (fault : ColumnFault) → JudgesOne did count files file index (layout_in footer column) rows before between (Ok (Some fault))
           → JudgesEach did count files file index footer (column ∷ columns) rows before between (Ok (Some (record { column = column.number; fault = fault })))
@@ -141,11 +140,11 @@ module _ {S : Type 0} (did : S → List Act → S → Type 0) (count : S → ℕ
         told = λ bytes has. said answer bytes (j.told bytes has) (more.told bytes has);
       }
         where
-          order : (answer : Result (Option Refused) OpenFault) → EachJudgeOrder file (index + 1) (layouts_in footer columns) more.acts answer
-              → EachJudgeOrder file index (layouts_in footer (column ∷ columns)) (j.acts ++ more.acts) answer
+          order : (answer : Result (Option Refused) OpenFault) → EachJudgeOrder file footer (index + 1) columns more.acts answer
+              → EachJudgeOrder file footer index (column ∷ columns) (j.acts ++ more.acts) answer
           order (Ok None) o = (j.acts, more.acts, refl, j.order, o)
           order (Ok (Some refused)) o = JudgedUpTo.later j.order o
-          order (Err fault) o = JudgedUpTo.later j.order o
+          order (Err fault) o = (o.0, JudgedUpTo.later j.order o.1)
 
           said : (answer : Result (Option Refused) OpenFault) (bytes : List ℕ) → FindsOne bytes (layout_in footer column) rows None → IfOk answer (FindsFirst bytes footer columns rows)
               → IfOk answer (FindsFirst bytes footer (column ∷ columns) rows)

@@ -14,7 +14,7 @@ use Rattle.orc_streams.specs.declared.layout.ColumnLayout.{ColumnLayout}
 use Rattle.orc_streams.specs.declared.layout.ReadColumn.{ReadColumn}
 use Rattle.orc_streams.specs.declared.stream_reader.OpenFault.{OpenFault}
 use Rattle.orc_streams.specs.Acts.{Act, take_acts, FailedToOpen}
-use Rattle.orc_streams.specs.Layout.{plan_at}
+use Rattle.orc_streams.specs.Layout.{layout_in, plan_at}
 use Rattle.orc_streams.specs.Openings.{spans_of, openings_at, all_opened, FitOpenings}
 use Rattle.orc_batches.specs.Batch.{Batch}
 use Rattle.orc_rows.specs.declared.judge.Refused.{Refused}
@@ -64,19 +64,22 @@ EachJudgeActs file index (layout ∷ layouts) acts =
     (front : List Act) × (back : List Act) × (acts ≡ front ++ back) × JudgeActs file index layout front
     × EachJudgeActs file (index + 1) layouts back
 
--- They were up to one, whose acts are the last.
-pub data JudgedUpTo (file : FileRef) (Last : ℕ → ColumnLayout → List Act → Type 0) : ℕ → List ColumnLayout → List Act → Type 0 where
-  here : {index : ℕ} {layout : ColumnLayout} {layouts : List ColumnLayout} {acts : List Act} → Last index layout acts
-      → JudgedUpTo file Last index (layout ∷ layouts) acts
-  later : {index : ℕ} {layout : ColumnLayout} {layouts : List ColumnLayout} {front back : List Act}
-      → JudgeActs file index layout front → JudgedUpTo file Last (index + 1) layouts back
-      → JudgedUpTo file Last index (layout ∷ layouts) (front ++ back)
+-- They were up to the one of a type's number, whose acts are the last.
+pub data JudgedUpTo (file : FileRef) (footer : StripeFooter) (Last : ℕ → ColumnLayout → List Act → Type 0) : ℕ → List ReadColumn → ℕ
+    → List Act → Type 0 where
+  here : {index : ℕ} {column : ReadColumn} {columns : List ReadColumn} {acts : List Act} → Last index (layout_in footer column) acts
+      → JudgedUpTo file footer Last index (column ∷ columns) column.number acts
+  later : {index number : ℕ} {column : ReadColumn} {columns : List ReadColumn} {front back : List Act}
+      → JudgeActs file index (layout_in footer column) front → JudgedUpTo file footer Last (index + 1) columns number back
+      → JudgedUpTo file footer Last index (column ∷ columns) number (front ++ back)
 
--- the acts of judging columns: all, where none is refused; up to the one that is; or up to the one that wasn't judged
-abbrev pub EachJudgeOrder : FileRef → ℕ → List ColumnLayout → List Act → Result (Option Refused) OpenFault → Type 0
-EachJudgeOrder file index layouts acts (Ok None) = EachJudgeActs file index layouts acts
-EachJudgeOrder file index layouts acts (Ok (Some refused)) = JudgedUpTo file (λ i l. JudgeActs file i l) index layouts acts
-EachJudgeOrder file index layouts acts (Err fault) = JudgedUpTo file (λ i l. JudgeEnds file i l fault) index layouts acts
+-- the acts of judging columns: all, where none is refused; up to the one that is; or up to one that wasn't judged
+abbrev pub EachJudgeOrder : FileRef → StripeFooter → ℕ → List ReadColumn → List Act → Result (Option Refused) OpenFault → Type 0
+EachJudgeOrder file footer index columns acts (Ok None) = EachJudgeActs file index (layouts_in footer columns) acts
+EachJudgeOrder file footer index columns acts (Ok (Some refused)) =
+    JudgedUpTo file footer (λ i l. JudgeActs file i l) index columns refused.column acts
+EachJudgeOrder file footer index columns acts (Err fault) =
+    (number : ℕ) × JudgedUpTo file footer (λ i l. JudgeEnds file i l fault) index columns number acts
 
 module _ {S : Type 0} (did : S → List Act → S → Type 0) (count : S → ℕ) (files : Option Files) (file : FileRef) where
   -- A column was judged: by some acts, a failed read has its cause, a fault that is found is the content's own, and where the file
@@ -95,7 +98,7 @@ module _ {S : Type 0} (did : S → List Act → S → Type 0) (count : S → ℕ
       (answer : Result (Option Refused) OpenFault) : Type 0 where
     pub acts : List Act
     pub by : did before acts after
-    pub order : EachJudgeOrder file index (layouts_in footer columns) acts answer
+    pub order : EachJudgeOrder file footer index columns acts answer
     pub cause : Cause (count before) (count after) (FailedToOpen answer)
     pub content : IfOk answer (λ found. IfSome found (λ refused. IsContent refused.fault))
     pub told : (bytes : List ℕ) → HasBytes files file bytes → IfOk answer (FindsFirst bytes footer columns rows)

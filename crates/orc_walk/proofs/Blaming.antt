@@ -119,7 +119,7 @@ module _ {S : Type 0} (did : S → List Act → S → Type 0) (count : S → ℕ
   blamed_found refused j = record {
     acts = j.acts;
     by = j.by;
-    order = inl j.order;
+    order = inl (number, refused.column, refused.fault, refl, j.order);
     cause = record { later = j.cause.later; failed = λ f. absurd f };
     content = j.content;
     fails = λ bytes has. (refused.column, refused.fault, refl, j.told bytes has);

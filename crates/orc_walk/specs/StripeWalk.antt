@@ -13,7 +13,6 @@ use Rattle.orc_tail.specs.declared.stripe.Stripe.{Stripe}
 use Rattle.orc_tail.specs.declared.stripe_footer.StripeFooter.{StripeFooter}
 use Rattle.orc_tail.specs.Reads.{ending, stripe_footer_plan}
 use Rattle.orc_tail.specs.StripeFooter.{stripe_footer, footer_at}
-use Rattle.orc_streams.specs.declared.layout.ColumnLayout.{ColumnLayout}
 use Rattle.orc_streams.specs.declared.stream_reader.OpenFault.TheVariants as open_fault
 use Rattle.orc_streams.specs.declared.layout.ReadColumn.{ReadColumn}
 use Rattle.orc_streams.specs.Acts.{Act, closes, read_acts}
@@ -37,13 +36,17 @@ ColumnsFail bytes footer columns rows number broken =
     (which : ℕ) × (fault : ColumnFault) × (broken ≡ BrokenColumn number which fault)
     × FirstColumnFails bytes footer rows columns which fault
 
--- The columns were judged in their order: up to the first that is refused, or all, where the file changed meanwhile; or up to the one
--- at which a read failed or memory was refused.
-abbrev pub JudgedUntil : FileRef → List ColumnLayout → Stop RowsFault → List Act → Type 0
-JudgedUntil file layouts (stop.Fault broken) acts =
-    JudgedUpTo file (λ i l. JudgeActs file i l) 0 layouts acts ⊎ EachJudgeActs file 0 layouts acts
-JudgedUntil file layouts (stop.Read failed) acts = JudgedUpTo file (λ i l. JudgeEnds file i l (open_fault.Read failed)) 0 layouts acts
-JudgedUntil file layouts stop.NoMemory acts = JudgedUpTo file (λ i l. JudgeEnds file i l open_fault.NoMemory) 0 layouts acts
+-- The columns were judged in their order: up to the one that is blamed, or all, where the file changed meanwhile; or up to one at which
+-- a read failed or memory was refused.
+abbrev pub JudgedUntil : FileRef → StripeFooter → List ReadColumn → Stop RowsFault → List Act → Type 0
+JudgedUntil file footer columns (stop.Fault broken) acts =
+    ((number : ℕ) × (which : ℕ) × (fault : ColumnFault) × (broken ≡ BrokenColumn number which fault)
+    × JudgedUpTo file footer (λ i l. JudgeActs file i l) 0 columns which acts)
+    ⊎ EachJudgeActs file 0 (layouts_in footer columns) acts
+JudgedUntil file footer columns (stop.Read failed) acts =
+    (which : ℕ) × JudgedUpTo file footer (λ i l. JudgeEnds file i l (open_fault.Read failed)) 0 columns which acts
+JudgedUntil file footer columns stop.NoMemory acts =
+    (which : ℕ) × JudgedUpTo file footer (λ i l. JudgeEnds file i l open_fault.NoMemory) 0 columns which acts
 
 -- The columns of a stripe were given up to a failed read or want of memory; or up to a fault of the content, and then they were judged.
 pub data ColumnsStop (file : FileRef) (footer : StripeFooter) (columns : List ReadColumn) : List Batch → Stop RowsFault → List Act
@@ -54,7 +57,7 @@ pub data ColumnsStop (file : FileRef) (footer : StripeFooter) (columns : List Re
   refused : {batches : List Batch} {acts : List Act} → ColumnsEnd file footer columns batches column_fault.NoMemory acts
       → ColumnsStop file footer columns batches stop.NoMemory acts
   judged : {batches : List Batch} {why : Stop RowsFault} {front : List Act} (back : List Act) (fault : ColumnFault) → IsContent fault
-      → ColumnsEnd file footer columns batches fault front → JudgedUntil file (layouts_in footer columns) why back
+      → ColumnsEnd file footer columns batches fault front → JudgedUntil file footer columns why back
       → ColumnsStop file footer columns batches why (front ++ back)
 
 -- The first of the columns that fails was looked for: by some acts, a failed read has its cause, a fault is the content's own, and
@@ -64,7 +67,7 @@ pub record Blames {S : Type 0} (did : S → List Act → S → Type 0) (count : 
     (columns : List ReadColumn) (rows number : ℕ) (before after : S) (why : Stop RowsFault) : Type 0 where
   pub acts : List Act
   pub by : did before acts after
-  pub order : JudgedUntil file (layouts_in footer columns) why acts
+  pub order : JudgedUntil file footer columns why acts
   pub cause : Cause (count before) (count after) (IsReadStop why)
   pub content : IfFaulty why IsRowsContent
   pub fails : (bytes : List ℕ) → HasBytes files file bytes → IfFaulty why (ColumnsFail bytes footer columns rows number)

@@ -1,9 +1,4 @@
-pub mod Cause
-pub mod Filling
-pub mod Following
 pub mod KnownBytes
 pub mod Reading
-pub mod Runs
 pub mod Slices
 pub mod Varint
-pub mod VarintRuns

@@ -4,7 +4,6 @@ use Rattle.std.proofs.Math.Seq.{take-append-add, drop-append-add}
 use Rattle.std.proofs.Math.Dec.{leb-zero}
 use Rattle.outside.specs.declared.run_fault.RunFault.TheVariants.{StreamEnds}
 use Rattle.outside.specs.Reading.{go_on, value, mapped, exactly, byte}
-pub use Rattle.outside.specs.ReadingLaws.{AllOf-append, Reads-value, Reads-then, Reads-fault, Reads-map, Reads-placed, Reads-same, Reads-piece, Reads-end, Reads-failed, Reads-broken}
 
 -- nothing is asked for
 pub exactly-nothing : (into bytes : List ℕ) → length into ≡ 0 → exactly (length into) bytes ≡ value into bytes
