@@ -44,3 +44,6 @@ header_after-long first bytes h k =
     let t : ltb first 64 ≡ false = le-ltb first 64 h in
     let u : ltb first 256 ≡ true = lt-ltb first 256 k in
     rw (t, u) refl
+
+pub header_after-short : (first : ℕ) (bytes : List ℕ) → first < 64 → header_after first bytes ≡ value (Repeat (first / 8 + 1) (first % 8 + 3)) bytes
+header_after-short first bytes h = let t : ltb first 64 ≡ true = lt-ltb first 64 h in rw t refl

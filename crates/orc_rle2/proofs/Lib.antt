@@ -1,5 +1,6 @@
 pub mod Exactly
 pub mod Forms
+pub mod Given
 pub mod Groups
 pub mod Headers
 pub mod InPlace
@@ -7,4 +8,5 @@ pub mod Lengths
 pub mod Masks
 pub mod Numbers
 pub mod RunReader
+pub mod RunsIn
 pub mod WrappedSums

@@ -1,8 +1,10 @@
 //! The header of a run.
-ghost use Rattle.std.specs.Prelude.{◌≡◌, ◌≤◌, ◌<◌, IfOk};
+ghost use Rattle.std.specs.Prelude.{◌≡◌, ◌≤◌, ◌<◌, ◌+◌, ◌/◌, ◌%◌, IfOk, IfSome};
+ghost use Rattle.outside.specs.Lending.{ReadsIn};
 ghost use Rattle.outside.specs.Reading.{Reads};
 ghost use Rattle.orc_rle2.specs.Header.{run_header, long_header, count_of, IsBounded};
 ghost use Rattle.orc_rle2.specs.IntRun2.{code_of, run_len};
+ghost use Rattle.orc_rle2.specs.declared.header.Header.TheVariants.{Repeat};
 
 use crate::widths::width_of;
 use outside::{Feed, RunFault, take_byte};
@@ -43,13 +45,39 @@ pub fn read_header<F: Feed>(feed: &mut F, stream: u32) -> Result<Header, RunFaul
 {
     let first = take_byte(feed, stream)?;
     if first < 64 {
-        return Ok(Header::Repeat {
-            bytes: u32::from(first / 8 + 1),
-            count: usize::from(first % 8 + 3),
-        });
+        return Ok(short_header(first));
     }
     let second = take_byte(feed, stream)?;
     Ok(long_header(first, second))
+}
+
+/// The header that is the front of these bytes, and the bytes behind it; `None` where no whole header is.
+pub fn header_in<'a>(bytes: &'a [u8]) -> Option<(Header, &'a [u8])>
+    ensures reads { IfSome result (λ p. ReadsIn run_header bytes.now p.0 p.1.now) }
+    ensures bounded { IfSome result (λ p. IsBounded p.0) }
+    ensures some { IfSome result (λ p. 0 < count_of p.0) }
+    ensures most { IfSome result (λ p. count_of p.0 ≤ 512) }
+{
+    let (first, rest) = bytes.split_first()?;
+    if *first < 64 {
+        return Some((short_header(*first), rest));
+    }
+    let (second, left) = rest.split_first()?;
+    Some((long_header(*first, *second), left))
+}
+
+/// What the first byte of a short repeat says.
+fn short_header(first: u8) -> Header
+    requires { first < 64 }
+    ensures value { result ≡ Repeat (first / 8 + 1) (first % 8 + 3) }
+    ensures bounded { IsBounded result }
+    ensures some { 0 < count_of result }
+    ensures most { count_of result ≤ 512 }
+{
+    Header::Repeat {
+        bytes: u32::from(first / 8 + 1),
+        count: usize::from(first % 8 + 3),
+    }
 }
 
 /// What the first two bytes of a form but short repeat say.

@@ -1,14 +1,16 @@
 //! The decoder of runs of integers, version 2.
-ghost use Rattle.std.specs.Prelude.{◌≡◌, [], length, None, Some, Ok, Err};
+ghost use Rattle.std.specs.Prelude.{◌≡◌, ◌<◌, [], length, None, Some, Ok, Err};
 ghost use Rattle.std.specs.Result.{result_err};
 ghost use Rattle.outside.specs.declared.run_fault.RunFault.{RunFault};
 ghost use Rattle.outside.specs.Filling.{Fills};
 ghost use Rattle.outside.specs.Reading.{placed};
+ghost use Rattle.orc_integers.specs.Given.{given_of, GivesSomeIfOk};
 ghost use Rattle.orc_rle2.specs.IntRun2.{IntRun2, int_run2};
 
 use crate::run2::give_run;
+use crate::run2_in::give_runs_in;
 use orc_integers::Held;
-use outside::{Feed, RunFault};
+use outside::{Feed, RunFault, skip_exactly};
 use std::marker::Model;
 
 /// A decoder of the integers of one stream.
@@ -89,7 +91,32 @@ fn fill_on<F: Feed>(
     let mut given = held.give(out);
     while given < out.len() {
         let (_, open) = out.split_at_mut(given);
-        given += give_run(feed, stream, signed, held, open)?;
+        given += give_runs(feed, stream, signed, held, open)?;
     }
     Ok(())
+}
+
+/// Gives the values of the runs that stand whole in what the feed lends, until `out` is full; where none is read there,
+/// the values of one run. Answers how many were given.
+fn give_runs<F: Feed>(
+    feed: &mut F,
+    stream: u32,
+    signed: bool,
+    held: &mut Held,
+    out: &mut [i64],
+) -> Result<usize, RunFault>
+    requires none { held.old ≡ [] }
+    requires asked { 0 < length out.old }
+    ensures fills { Fills F.rest F.fed F.fault_count (IntRun2 signed) (int_run2 signed) stream
+        feed.old feed.new [] held.new (length out.old) (given_of out.new result) }
+    ensures gives { GivesSomeIfOk (length out.old) held.new result }
+{
+    let lent = feed.lent(stream);
+    let (given, left) = give_runs_in(lent, signed, held, out);
+    let used = lent.len() - left.len();
+    if given == 0 {
+        return give_run(feed, stream, signed, held, out);
+    }
+    skip_exactly(feed, stream, used)?;
+    Ok(given)
 }

@@ -8,6 +8,7 @@ mod packed;
 mod patched;
 mod patches;
 mod run2;
+mod run2_in;
 mod sums;
 mod widths;
 

@@ -1,5 +1,6 @@
 //! Packed values: big endian bits, one value after the other.
-ghost use Rattle.std.specs.Prelude.{◌≡◌, ◌+◌, ◌*◌, ◌^◌, ◌-◌, ◌/◌, ◌<◌, ◌≤◌, false, length, take, drop, map};
+ghost use Rattle.std.specs.Prelude.{◌≡◌, ◌+◌, ◌*◌, ◌^◌, ◌-◌, ◌/◌, ◌<◌, ◌≤◌, false, length, take, drop, map, IfSome};
+ghost use Rattle.outside.specs.Lending.{ReadsIn};
 ghost use Rattle.outside.specs.Reading.{Reads, placed};
 ghost use Rattle.orc_integers.specs.Integers.{integer};
 ghost use Rattle.orc_rle2.specs.Integers.{bits_in};
@@ -192,4 +193,26 @@ fn take_within<F: Feed, const ROOM: usize>(
     take_exactly(feed, stream, bytes)?;
     unpack_by_width(&buffer, width, signed, into);
     Ok(())
+}
+
+/// Unpacks the numbers that are the front of these bytes, as many as `into` has room for, and writes the values that
+/// they stand for; it answers the bytes behind them.
+///
+/// `None` where there aren't so many bytes and eight more, since each number is read as a part of eight bytes.
+pub fn packed_in<'a>(
+    bytes: &'a [u8],
+    width: u32,
+    signed: bool,
+    into: &mut [i64],
+) -> Option<&'a [u8]>
+    requires width { IsWidth width }
+    requires few { length into.old ≤ 512 }
+    ensures { IfSome result (λ left. ReadsIn (direct_body signed width (length into.old)) bytes.now into.new left.now) }
+{
+    let len = (width as usize * into.len()).div_ceil(8);
+    if bytes.len() < len + 8 {
+        return None;
+    }
+    unpack_by_width(bytes, width, signed, into);
+    Some(&bytes[len..])
 }
