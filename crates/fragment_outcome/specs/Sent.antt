@@ -20,6 +20,7 @@ pub data Wrote : Option (List ℕ) → Option (List ℕ) → ℕ → Option (Lis
   went : {held left bytes : List ℕ} {before after : Option (List ℕ)} {faults faults' : ℕ}
       → Sent held before left after bytes → faults ≤ faults' → Wrote (Some held) before faults (Some left) after faults' bytes
   broke : {held bytes : List ℕ} {before after : Option (List ℕ)} {faults faults' : ℕ} (left : List ℕ)
-      → Sent held before left after bytes → faults ≤ faults' → Rose faults faults' → Wrote (Some held) before faults None after faults' bytes
+      → Sent held before left after bytes → faults ≤ faults' → Rose faults faults'
+      → Wrote (Some held) before faults None after faults' bytes
   broken : {bytes : List ℕ} {before after : Option (List ℕ)} {faults faults' : ℕ}
       → Extended before after [] → faults ≤ faults' → Wrote None before faults None after faults' bytes

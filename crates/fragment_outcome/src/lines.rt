@@ -68,7 +68,8 @@ fn put_numbers<K: Sink>(writer: &mut Writer, out: &mut K, counts: &BTreeMap<i64,
 /// Writes a line for each text.
 fn put_texts<K: Sink>(writer: &mut Writer, out: &mut K, counts: &BTreeMap<Vec<u8>, u64>)
     ensures { Wrote (held_by writer.old) (K.content out.old) (K.fault_count out.old)
-        (held_by writer.new) (K.content out.new) (K.fault_count out.new) (groups_text (renamed (λ t. value.Text t) (by_bytes counts.now.entries))) }
+        (held_by writer.new) (K.content out.new) (K.fault_count out.new)
+        (groups_text (renamed (λ t. value.Text t) (by_bytes counts.now.entries))) }
 {
     for (text, count) in counts {
         put_text(writer, out, text.as_slice());

@@ -2,7 +2,8 @@
 ghost use Rattle.std.specs.Prelude.{◌≡◌, ◌≤◌, ◌<◌, [], ◌∷◌, ◌++◌, length, take};
 ghost use Rattle.fragment_outcome.specs.Sent.{held_by, Wrote};
 ghost use Rattle.std.specs.Fmt.{signed_decimal};
-ghost use Rattle.fragment_outcome.specs.Text.{hex_digit as digit_of, stands as stands_as_is, escaped_byte, escaped, value_text, tabbed, row_text};
+ghost use Rattle.fragment_outcome.specs.Text.{hex_digit as digit_of, stands as stands_as_is, escaped_byte};
+ghost use Rattle.fragment_outcome.specs.Text.{escaped, value_text, tabbed, row_text};
 
 use crate::row::Row;
 use crate::writer::Writer;

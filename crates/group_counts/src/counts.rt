@@ -153,7 +153,8 @@ impl Counts {
 
     /// The counts by kind, lent.
     pub fn parts(&self) -> Parts<'_>
-        ensures { entries_of result.nulls result.falses result.trues result.numbers.now.entries (by_bytes result.texts.now.entries) ≡ self.now }
+        ensures { entries_of result.nulls result.falses result.trues
+            result.numbers.now.entries (by_bytes result.texts.now.entries) ≡ self.now }
     {
         Parts {
             nulls: self.nulls,

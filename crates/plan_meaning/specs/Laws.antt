@@ -9,7 +9,8 @@ use Rattle.fragment_meaning.specs.PlanOutcomes.{AreOutcomes}
 -- the fragments of a plan have outcomes, where the scans of some numbers weren't read
 abbrev pub PlansHaveOutcomes : Type 0
 PlansHaveOutcomes =
-    (files : Files) (unread : ℕ → Bool) (plan : List Fragment) → AllInBounds plan → (outcomes : List Outcome) × AreOutcomes files unread plan outcomes
+    (files : Files) (unread : ℕ → Bool) (plan : List Fragment) → AllInBounds plan
+    → (outcomes : List Outcome) × AreOutcomes files unread plan outcomes
 
 -- and they are one list
 abbrev pub OutcomesOfPlansAreOne : Type 0

@@ -1,5 +1,6 @@
 -- What a fragment must be to stand in a plan (this project's own), in terms of its fields alone.
-use Rattle.std.specs.Prelude.{◌≡◌, ℕ, suc, ◌<◌, ◌≤◌, ◌^◌, List, [], ◌∷◌, ◌++◌, length, map, position, nat_lt, ◌==◌, not, if◌then◌else◌, Option, Some, None, true, pos, negsuc, All}
+use Rattle.std.specs.Prelude.{◌≡◌, ℕ, suc, ◌<◌, ◌≤◌, ◌^◌, List, [], ◌∷◌, ◌++◌, length, map, position, nat_lt}
+use Rattle.std.specs.Prelude.{◌==◌, not, if◌then◌else◌, Option, Some, None, true, pos, negsuc, All}
 use Rattle.std.specs.List.{list_all}
 use Rattle.std.specs.Str.{bytes_eq}
 use Rattle.orc_values.specs.declared.value.Value.{Value}

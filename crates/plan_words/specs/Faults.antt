@@ -1,7 +1,8 @@
 -- The words of a plan's faults (this project's own).
 use Rattle.std.specs.Prelude.{ℕ, List, codes}
 use Rattle.plan_words.specs.declared.fault.PlanKind.{PlanKind}
-use Rattle.plan_words.specs.declared.fault.PlanKind.TheVariants.{BadWord, BadName, UnknownFragment, ShapeDiffers, TooMany, BadLiteral, TooLong}
+use Rattle.plan_words.specs.declared.fault.PlanKind.TheVariants.{BadWord, BadName, UnknownFragment, ShapeDiffers}
+use Rattle.plan_words.specs.declared.fault.PlanKind.TheVariants.{TooMany, BadLiteral, TooLong}
 
 -- what is printed of a fault
 abbrev pub words_of : PlanKind → List ℕ
