@@ -19,7 +19,8 @@ at_next base delta i = omega (arith, ints)
 pub ramp_first : (base : ℕ) (delta : ℤ) → base < 2 ^ 64 → cast_signed w64 base ≡ int_wrap w64 (cast_signed w64 base +ℤ pos 0 *ℤ delta)
 ramp_first base delta h = rw at_first (sym (int_wrap_fits w64 (cast_signed w64 base) (bits_fit base h)))
 
-pub ramp_next : (base : ℤ) (next delta i : ℕ) → next < 2 ^ 64 → delta < 2 ^ 64 → cast_signed w64 next ≡ int_wrap w64 (base +ℤ pos i *ℤ cast_signed w64 delta) →
+pub ramp_next : (base : ℤ) (next delta i : ℕ) → next < 2 ^ 64 → delta < 2 ^ 64
+    → cast_signed w64 next ≡ int_wrap w64 (base +ℤ pos i *ℤ cast_signed w64 delta) →
     cast_signed w64 ((next + delta) % 2 ^ 64) ≡ int_wrap w64 (base +ℤ pos (i + 1) *ℤ cast_signed w64 delta)
 ramp_next base next delta i h k is =
     wrapping_add-bits w64 next delta h k
@@ -27,7 +28,9 @@ ramp_next base next delta i h k is =
     ∙ int_wrap-add_left w64 (base +ℤ pos i *ℤ cast_signed w64 delta) (cast_signed w64 delta)
     ∙ ap (λ (z : ℤ). int_wrap w64 z) (at_next base (cast_signed w64 delta) i)
 
-pub ramp_more : (base delta : ℤ) (front : List ℤ) (i : ℕ) (value : ℤ) → i < length front → take i front ≡ ramp base delta i → value ≡ int_wrap w64 (base +ℤ pos i *ℤ delta) → take (i + 1) (set front i value) ≡ ramp base delta (i + 1)
+pub ramp_more : (base delta : ℤ) (front : List ℤ) (i : ℕ) (value : ℤ) → i < length front
+    → take i front ≡ ramp base delta i → value ≡ int_wrap w64 (base +ℤ pos i *ℤ delta)
+    → take (i + 1) (set front i value) ≡ ramp base delta (i + 1)
 ramp_more base delta front i value h made is =
     take_more_set front i value h
     ∙ rw (made, is) refl

@@ -9,7 +9,9 @@ use Rattle.orc_rle.specs.ByteRun.{ByteRun, byte_run}
 
 -- the eight bits of a byte, the highest first
 abbrev pub byte_bits : ℕ → List Bool
-byte_bits byte = (byte / 128 % 2 == 1) ∷ (byte / 64 % 2 == 1) ∷ (byte / 32 % 2 == 1) ∷ (byte / 16 % 2 == 1) ∷ (byte / 8 % 2 == 1) ∷ (byte / 4 % 2 == 1) ∷ (byte / 2 % 2 == 1) ∷ (byte % 2 == 1) ∷ []
+byte_bits byte =
+    (byte / 128 % 2 == 1) ∷ (byte / 64 % 2 == 1) ∷ (byte / 32 % 2 == 1) ∷ (byte / 16 % 2 == 1)
+    ∷ (byte / 8 % 2 == 1) ∷ (byte / 4 % 2 == 1) ∷ (byte / 2 % 2 == 1) ∷ (byte % 2 == 1) ∷ []
 
 -- the bits of bytes, one byte after the other
 abbrev pub bits_of : List ℕ → List Bool

@@ -18,7 +18,9 @@ pub data ByteRun : List ℕ → List ℕ → Type 0 where
 
 -- what follows the control; a number that is no byte doesn't stand in a stream
 abbrev pub bytes_after : ℕ → Reader (List ℕ)
-bytes_after control = if nat_lt control 128 then mapped (replicate (control + 3)) byte else (if nat_lt control 256 then exactly (256 - control) else refusal StreamEnds)
+bytes_after control =
+    if nat_lt control 128 then mapped (replicate (control + 3)) byte
+    else (if nat_lt control 256 then exactly (256 - control) else refusal StreamEnds)
 
 abbrev pub byte_run : Reader (List ℕ)
 byte_run = bind byte bytes_after

@@ -30,7 +30,8 @@ AnswersEmpty (Ok false) = Unit {0}
 AnswersEmpty (Err fault) = IsReadFault fault
 
 -- The decoder found no byte: it held nothing and was asked for something, it is as it was, and so is the stream.
-pub record FindsEmpty {F V : Type 0} (rest : F → ℕ → Option (List ℕ)) (fed : F → List Taken → F → Type 0) (count : F → ℕ) (stream : ℕ) (first last : F) (before held : List V) (asked : ℕ) : Type 0 where
+pub record FindsEmpty {F V : Type 0} (rest : F → ℕ → Option (List ℕ)) (fed : F → List Taken → F → Type 0)
+    (count : F → ℕ) (stream : ℕ) (first last : F) (before held : List V) (asked : ℕ) : Type 0 where
   pub takes : List Taken
   pub led : fed first takes last
   pub own : AllOf stream takes
@@ -41,11 +42,16 @@ pub record FindsEmpty {F V : Type 0} (rest : F → ℕ → Option (List ℕ)) (f
 -- what it did, by its answer: it filled, or broke, as ever, or it found no byte
 abbrev pub FillsOrFindsEmpty : {F V : Type 0} → (F → ℕ → Option (List ℕ)) → (F → List Taken → F → Type 0) → (F → ℕ)
     → (List ℕ → List V → Type 0) → Reader (List V) → ℕ → F → F → List V → List V → ℕ → List V → Result Bool RunFault → Type 0
-FillsOrFindsEmpty rest fed count Run read stream first last before held asked values (Ok true) = Fills rest fed count Run read stream first last before held asked (Ok values)
-FillsOrFindsEmpty rest fed count Run read stream first last before held asked values (Ok false) = FindsEmpty rest fed count stream first last before held asked
-FillsOrFindsEmpty rest fed count Run read stream first last before held asked values (Err fault) = Fills rest fed count Run read stream first last before held asked (Err fault)
+FillsOrFindsEmpty rest fed count Run read stream first last before held asked values (Ok true) =
+    Fills rest fed count Run read stream first last before held asked (Ok values)
+FillsOrFindsEmpty rest fed count Run read stream first last before held asked values (Ok false) =
+    FindsEmpty rest fed count stream first last before held asked
+FillsOrFindsEmpty rest fed count Run read stream first last before held asked values (Err fault) =
+    Fills rest fed count Run read stream first last before held asked (Err fault)
 
 -- A call that gives values as `Fills` says, unless its stream has no byte and one is needed. Then it answers that.
-pub record FillsUnlessEmpty {F V : Type 0} (rest : F → ℕ → Option (List ℕ)) (fed : F → List Taken → F → Type 0) (count : F → ℕ) (Run : List ℕ → List V → Type 0) (read : Reader (List V)) (stream : ℕ) (first last : F) (before held : List V) (asked : ℕ) (values : List V) (answer : Result Bool RunFault) : Type 0 where
+pub record FillsUnlessEmpty {F V : Type 0} (rest : F → ℕ → Option (List ℕ)) (fed : F → List Taken → F → Type 0)
+    (count : F → ℕ) (Run : List ℕ → List V → Type 0) (read : Reader (List V)) (stream : ℕ) (first last : F)
+    (before held : List V) (asked : ℕ) (values : List V) (answer : Result Bool RunFault) : Type 0 where
   pub fills : FillsOrFindsEmpty rest fed count Run read stream first last before held asked values answer
   pub empty : (bytes : List ℕ) → rest first stream ≡ Some bytes → NeedsByte before asked bytes → AnswersEmpty answer

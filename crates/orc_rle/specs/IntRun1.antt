@@ -30,7 +30,9 @@ literal_run signed count = mapped (map (integer signed)) (varints count)
 
 -- what follows the control; a number that is no byte doesn't stand in a stream
 abbrev pub run_after : Bool → ℕ → Reader (List ℤ)
-run_after signed control = if nat_lt control 128 then repeated_run signed (control + 3) else (if nat_lt control 256 then literal_run signed (256 - control) else refusal StreamEnds)
+run_after signed control =
+    if nat_lt control 128 then repeated_run signed (control + 3)
+    else (if nat_lt control 256 then literal_run signed (256 - control) else refusal StreamEnds)
 
 abbrev pub int_run1 : Bool → Reader (List ℤ)
 int_run1 signed = bind byte (run_after signed)

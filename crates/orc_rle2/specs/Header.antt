@@ -13,11 +13,15 @@ use Rattle.orc_rle2.specs.Widths.{width_of, IsWidth}
 
 -- what the first two bytes of a form but short repeat say
 abbrev pub long_header : ℕ → ℕ → ℕ → Header
-long_header first code count = if nat_lt first 128 then Direct (width_of code) count else (if nat_lt first 192 then Patched (width_of code) count else Delta code count)
+long_header first code count =
+    if nat_lt first 128 then Direct (width_of code) count
+    else (if nat_lt first 192 then Patched (width_of code) count else Delta code count)
 
 -- what follows the first byte; a number that is no byte doesn't stand in a stream
 abbrev pub header_after : ℕ → Reader Header
-header_after first = if nat_lt first 64 then value (Repeat (first / 8 + 1) (first % 8 + 3)) else (if nat_lt first 256 then mapped (λ second. long_header first (code_of first) (run_len first second)) byte else refusal StreamEnds)
+header_after first =
+    if nat_lt first 64 then value (Repeat (first / 8 + 1) (first % 8 + 3))
+    else (if nat_lt first 256 then mapped (λ second. long_header first (code_of first) (run_len first second)) byte else refusal StreamEnds)
 
 abbrev pub run_header : Reader Header
 run_header = bind byte header_after

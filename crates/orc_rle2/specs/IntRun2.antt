@@ -41,7 +41,8 @@ magnitudes_in code count body = if code == 0 then [] else unpacked (width_of cod
 
 -- the base, then the base and the delta, and then with each magnitude one more
 abbrev pub varied : ℤ → ℤ → ℕ → List ℕ → List ℤ
-varied base delta count magnitudes = if count == 1 then base ∷ [] else base ∷ sums (wrapped_sum base delta) (map (with_sign delta) magnitudes)
+varied base delta count magnitudes =
+    if count == 1 then base ∷ [] else base ∷ sums (wrapped_sum base delta) (map (with_sign delta) magnitudes)
 
 abbrev pub delta_values : ℤ → ℤ → ℕ → ℕ → List ℕ → List ℤ
 delta_values base delta code count magnitudes = if code == 0 then ramp base delta count else varied base delta count magnitudes
@@ -60,7 +61,8 @@ abbrev pub entry_width : Shape → ℕ
 entry_width shape = least_width (shape.gaps + shape.patches)
 
 abbrev pub patched_numbers : Shape → ℕ → ℕ → List ℕ → List ℕ → Option (List ℕ)
-patched_numbers shape patches count body entries = patched shape 0 (unpacked (entry_width shape) patches entries) (unpacked shape.values count body)
+patched_numbers shape patches count body entries =
+    patched shape 0 (unpacked (entry_width shape) patches entries) (unpacked shape.values count body)
 
 -- ---- the four forms
 
@@ -74,11 +76,15 @@ pub data IntRun2 (signed : Bool) : List ℕ → List ℤ → Type 0 where
       (0 < patch_count fourth → fourth / 32 + 1 + width_of (third % 32) ≤ 64) →
       length base ≡ base_len third → length body ≡ packed_len (width_of (code_of first)) (run_len first second)
       → length entries ≡ packed_len (entry_width (shape_of (width_of (code_of first)) third fourth)) (patch_count fourth) →
-      patched_numbers (shape_of (width_of (code_of first)) third fourth) (patch_count fourth) (run_len first second) body entries ≡ Some numbers →
-      IntRun2 signed (first ∷ second ∷ third ∷ fourth ∷ (base ++ (body ++ entries))) (above_base (sign_magnitude (8 * base_len third) (number_of base)) numbers)
+      patched_numbers (shape_of (width_of (code_of first)) third fourth) (patch_count fourth)
+      (run_len first second) body entries ≡ Some numbers →
+      IntRun2 signed (first ∷ second ∷ third ∷ fourth ∷ (base ++ (body ++ entries)))
+      (above_base (sign_magnitude (8 * base_len third) (number_of base)) numbers)
   delta : (first second start step : ℕ) (start_bytes step_bytes body : List ℕ) → 192 ≤ first → first < 256 → IsVarint start_bytes start
       → IsVarint step_bytes step → length body ≡ magnitude_len (code_of first) (run_len first second) →
-      IntRun2 signed (first ∷ second ∷ (start_bytes ++ (step_bytes ++ body))) (delta_values (integer signed start) (zigzag step) (code_of first) (run_len first second) (magnitudes_in (code_of first) (run_len first second) body))
+      IntRun2 signed (first ∷ second ∷ (start_bytes ++ (step_bytes ++ body)))
+      (delta_values (integer signed start) (zigzag step) (code_of first) (run_len first second)
+      (magnitudes_in (code_of first) (run_len first second) body))
 
 -- ---- reading a run, with its first fault
 
@@ -96,7 +102,9 @@ abbrev pub magnitudes : ℕ → ℕ → Reader (List ℕ)
 magnitudes code count = if code == 0 then value [] else packed (width_of code) (count - 2)
 
 abbrev pub delta_body : Bool → ℕ → ℕ → Reader (List ℤ)
-delta_body signed code count = bind varint (λ start. bind varint (λ step. mapped (delta_values (integer signed start) (zigzag step) code count) (magnitudes code count)))
+delta_body signed code count =
+    bind varint (λ start. bind varint (λ step.
+    mapped (delta_values (integer signed start) (zigzag step) code count) (magnitudes code count)))
 
 -- the values after their patches, above their base
 abbrev pub or_out_of_run : ℤ → Option (List ℕ) → Reader (List ℤ)
@@ -104,7 +112,9 @@ or_out_of_run base None = refusal PatchOutOfRun
 or_out_of_run base (Some numbers) = value (above_base base numbers)
 
 abbrev pub patched_values : Shape → ℤ → ℕ → ℕ → Reader (List ℤ)
-patched_values shape base patches count = bind (packed shape.values count) (λ numbers. bind (packed (entry_width shape) patches) (λ entries. or_out_of_run base (patched shape 0 entries numbers)))
+patched_values shape base patches count =
+    bind (packed shape.values count) (λ numbers. bind (packed (entry_width shape) patches) (λ entries.
+    or_out_of_run base (patched shape 0 entries numbers)))
 
 -- a base of so many bytes
 abbrev pub base_bytes : ℕ → Reader ℤ
@@ -121,18 +131,24 @@ abbrev pub patched_after : Shape → ℕ → ℕ → ℕ → Reader (List ℤ)
 patched_after shape base patches count = if too_wide shape patches then refusal PatchTooWide else patched_rest shape base patches count
 
 abbrev pub patched_body : ℕ → ℕ → Reader (List ℤ)
-patched_body width count = bind byte (λ third. bind byte (λ fourth. patched_after (shape_of width third fourth) (base_len third) (patch_count fourth) count))
+patched_body width count =
+    bind byte (λ third. bind byte (λ fourth.
+    patched_after (shape_of width third fourth) (base_len third) (patch_count fourth) count))
 
 -- what follows the second byte of a form but short repeat
 abbrev pub long_body : Bool → ℕ → ℕ → ℕ → Reader (List ℤ)
-long_body signed first code count = if nat_lt first 128 then direct_body signed (width_of code) count else (if nat_lt first 192 then patched_body (width_of code) count else delta_body signed code count)
+long_body signed first code count =
+    if nat_lt first 128 then direct_body signed (width_of code) count
+    else (if nat_lt first 192 then patched_body (width_of code) count else delta_body signed code count)
 
 abbrev pub long_run : Bool → ℕ → Reader (List ℤ)
 long_run signed first = bind byte (λ second. long_body signed first (code_of first) (run_len first second))
 
 -- what follows the first byte; a number that is no byte doesn't stand in a stream
 abbrev pub run_after : Bool → ℕ → Reader (List ℤ)
-run_after signed first = if nat_lt first 64 then repeat_run signed first else (if nat_lt first 256 then long_run signed first else refusal StreamEnds)
+run_after signed first =
+    if nat_lt first 64 then repeat_run signed first
+    else (if nat_lt first 256 then long_run signed first else refusal StreamEnds)
 
 abbrev pub int_run2 : Bool → Reader (List ℤ)
 int_run2 signed = bind byte (run_after signed)

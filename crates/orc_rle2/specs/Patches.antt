@@ -25,4 +25,6 @@ abbrev pub patched : Shape → ℕ → List ℕ → List ℕ → Option (List �
 patched shape position [] values = Some values
 patched shape position (entry ∷ entries) values =
     let at = position + gap_of shape entry in
-    if only_moves shape entry then patched shape at entries values else (if nat_lt at (length values) then patched shape at entries (slice_set values at (patched_value shape.values (patch_of shape entry) (slice_index values at))) else None)
+    if only_moves shape entry then patched shape at entries values
+    else (if nat_lt at (length values) then patched shape at entries
+    (slice_set values at (patched_value shape.values (patch_of shape entry) (slice_index values at))) else None)

@@ -90,7 +90,9 @@ fn read_values<F: Feed>(
     requires widest { shape.patches ≤ 64 }
     requires few { patches < 32 }
     requires most { length into.old ≤ 512 }
-    ensures { Reads F.rest F.fed F.fault_count stream (patched_values shape (cast_signed w64 base) patches (length into.old)) feed.old feed.new (placed into.new result) }
+    ensures { Reads F.rest F.fed F.fault_count stream
+        (patched_values shape (cast_signed w64 base) patches (length into.old)) feed.old feed.new
+        (placed into.new result) }
 {
     take_packed(feed, stream, shape.values, false, into)?;
     let mut buffer = [0; 32];

@@ -139,7 +139,9 @@ fn read_varied<F: Feed>(
     requires width { IsWidth width }
     requires some { 0 < length into.old }
     requires most { length into.old ≤ 512 }
-    ensures { Reads F.rest F.fed F.fault_count stream (mapped (varied (cast_signed w64 base) (cast_signed w64 delta) (length into.old)) (packed width (length into.old - 2))) feed.old feed.new (placed into.new result) }
+    ensures { Reads F.rest F.fed F.fault_count stream
+        (mapped (varied (cast_signed w64 base) (cast_signed w64 delta) (length into.old))
+        (packed width (length into.old - 2))) feed.old feed.new (placed into.new result) }
 {
     let (front, magnitudes) = into.split_at_mut(into.len().min(2));
     write_ramp(base, delta, front);

@@ -32,7 +32,8 @@ pub fn add_base(base: u64, numbers: &mut [i64])
 /// Makes each magnitude the sum of the value before it and of the magnitude with the sign of a delta. The first
 /// follows this value.
 pub fn add_steps(value: u64, delta: u64, magnitudes: &mut [i64])
-    ensures { cast_signed w64 value ∷ magnitudes.new ≡ sums (cast_signed w64 value) (map (with_sign (cast_signed w64 delta)) (bits_in magnitudes.old)) }
+    ensures { cast_signed w64 value ∷ magnitudes.new
+        ≡ sums (cast_signed w64 value) (map (with_sign (cast_signed w64 delta)) (bits_in magnitudes.old)) }
 {
     let mut next = value;
     for magnitude in magnitudes.iter_mut() {
