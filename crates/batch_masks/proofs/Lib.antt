@@ -1,3 +1,4 @@
 mod Masks
 mod Numbers
 mod Passing
+pub mod Dense

@@ -1,12 +1,12 @@
 -- Rows of a batch that pass one test more.
-use Rattle.std.proofs.Common.{◌≡◌, ◌&&◌, ℕ, zero, suc, ◌+◌, ◌<◌, Bool, true, false, List, [], ◌∷◌, ◌++◌, length, map, take, get_or, replicate, refl, sym, ◌∙◌, ap, arith}
+use Rattle.std.proofs.Common.{◌≡◌, ◌&&◌, ℕ, zero, suc, ◌+◌, ◌<◌, Bool, true, false, List, [], ◌∷◌, ◌++◌, length, map, take, get_or, replicate, refl, sym, ◌∙◌, ap}
 use Rattle.std.proofs.lemmas.List.{take_more}
 use Rattle.orc_values.specs.declared.value.Value.{Value}
 use Rattle.fragment_plan.specs.declared.test.Test.{Test}
 use Rattle.batch_masks.specs.Checks.{check_holds}
 use Rattle.batch_masks.specs.Kept.{both}
 use Rattle.batch_masks.specs.Rows.{field, passes, rows_of, rows_from}
-use Rattle.batch_masks.specs.RowsLaws.{column_of_rows, length-rows_from}
+use Rattle.batch_masks.specs.RowsLaws.{column_of_rows}
 use Rattle.batch_masks.proofs.Masks.{and_assoc}
 
 passes-push : (tests : List Test) (t : Test) (row : List Value) → passes (tests ++ t ∷ []) row ≡ (passes tests row && check_holds t.check (field row t.column))

@@ -5,6 +5,8 @@ mod compares;
 mod mask;
 mod narrow;
 mod total;
+mod whole;
 
 pub use mask::mask_of;
 pub use total::{Total, with_kept};
+pub use whole::with_all;

@@ -144,7 +144,7 @@ fn narrow_by<C: Compare>(mask: &mut [bool], present: &[bool], entries: &[i64], l
 }
 
 /// The number at a row.
-fn number_at(entries: &[i64], row: usize) -> i64
+pub(crate) fn number_at(entries: &[i64], row: usize) -> i64
     requires { row < length entries.now }
     ensures value { result ≡ get_or entries.now row (pos 0) }
     ensures fits { FitsSigned w64 result }

@@ -1,6 +1,6 @@
 -- What rows bring to a fold.
-use Rattle.std.proofs.Common.{◌≡◌, ◌<◌, ℕ, ◌+◌, Bool, true, false, List, [], ◌∷◌, ◌++◌, length, take, map, get_or, if◌then◌else◌, refl, sym, ◌∙◌, ap, arith, append_assoc, append-nil}
-use Rattle.std.proofs.lemmas.List.{map-append}
+use Rattle.std.proofs.Common.{◌≡◌, ◌<◌, ℕ, ◌+◌, Bool, true, false, List, [], ◌∷◌, ◌++◌, length, take, map, get_or, replicate, Option, Some, None, IfSome, if◌then◌else◌, refl, sym, ◌∙◌, ap, arith, append_assoc, append-nil}
+use Rattle.std.proofs.lemmas.List.{length-replicate, map-append}
 use Rattle.orc_values.specs.declared.value.Value.{Value}
 use Rattle.orc_values.specs.declared.value.Value.TheVariants as value
 use Rattle.orc_values.specs.Woven.{present_count}
@@ -87,3 +87,27 @@ count-length (state.Rows table) xs ys len = refl
 count-length (state.Count count) xs ys len = ap (λ (n : ℕ). state.Count (plus count n)) len
 count-length (state.Sum total) xs ys len = refl
 count-length (state.Group counts) xs ys len = refl
+
+-- where every flag is set, every row is kept
+pub kept-all : {A : Type 0} (rows : List A) → kept (replicate (length rows) true) rows ≡ rows
+kept-all [] = refl
+kept-all {A} (row ∷ rows) = ap (λ (l : List A). row ∷ l) (kept-all rows)
+
+pub kept-whole : (n : ℕ) (columns : List (List Value)) (mask : List Bool) → mask ≡ replicate n true
+    → kept mask (rows_of (length mask) columns) ≡ rows_of n columns
+kept-whole n columns mask is =
+    let len : length mask ≡ n = ap (λ (l : List Bool). length l) is ∙ length-replicate n true in
+    let rows = rows_of n columns in
+    ap (λ (k : ℕ). kept mask (rows_of k columns)) len
+    ∙ ap (λ (l : List Bool). kept l rows) (is ∙ ap (λ (k : ℕ). replicate k true) (sym (length-rows_from 0 n columns)))
+    ∙ kept-all rows
+
+-- so many rows are counted without a look at them
+pub count-whole : (s : State) (n : ℕ) (columns : List (List Value)) → with_rows kind.Count s (replicate n []) ≡ with_rows kind.Count s (rows_of n columns)
+count-whole s n columns =
+    let none : List Value = [] in
+    count-length s (replicate n none) (rows_of n columns) (length-replicate n none ∙ sym (length-rows_from 0 n columns))
+
+pub some_weaker : {X : Type 0} (o : Option X) (P Q : X → Type 0) → ((x : X) → P x → Q x) → IfSome o P → IfSome o Q
+some_weaker (Some x) P Q more p = more x p
+some_weaker None P Q more p = p

@@ -3,6 +3,8 @@
 
 mod kept;
 mod state;
+mod whole;
 
 pub use kept::{count_with, with_kept_rows};
 pub use state::{State, nothing_of};
+pub use whole::with_whole;

@@ -1,9 +1,10 @@
 -- What rows bring to a fold.
-use Rattle.std.proofs.Common.{◌≡◌, ◌<◌, ℕ, ◌+◌, ◌^◌, Bool, List, [], ◌∷◌, ◌++◌, length, map, replicate, refl, sym, ◌∙◌, ap, arith}
+use Rattle.std.proofs.Common.{◌≡◌, ◌==◌, true, ◌<◌, ℕ, ◌+◌, ◌^◌, Bool, List, [], ◌∷◌, ◌++◌, length, map, replicate, refl, sym, ◌∙◌, ap, arith}
 use Rattle.std.proofs.lemmas.List.{length-map, length-replicate}
 use Rattle.orc_values.specs.declared.value.Value.{Value}
 use Rattle.fragment_plan.specs.declared.fragment.FoldKind.TheVariants as kind
 use Rattle.fragment_plan.specs.declared.fragment.Scan.{Scan}
+use Rattle.fragment_plan.specs.declared.test.Test.{Test}
 use Rattle.group_counts.specs.Order.{value_cmp}
 use Rattle.group_counts.specs.Tally.{plus, added, added_all}
 use Rattle.group_counts.specs.Entries.{Entries}
@@ -31,6 +32,15 @@ kept-passing scan rows =
 passing-none : (rows : List (List Value)) → passing [] rows ≡ rows
 passing-none [] = refl
 passing-none (row ∷ rows) = ap (λ (l : List (List Value)). row ∷ l) (passing-none rows)
+
+-- no test is there where they are none
+pub none-is : (tests : List Test) → (length tests == 0) ≡ true → tests ≡ []
+none-is [] e = refl
+none-is (test ∷ tests) e = absurd (grind (arith, e))
+
+-- without a test all rows pass
+pub whole-passes : (tests : List Test) (rows : List (List Value)) → tests ≡ [] → rows ≡ passing tests rows
+whole-passes tests rows none = sym (passing-none rows) ∙ ap (λ (l : List Test). passing l rows) (sym none)
 
 -- counting rows without a test
 pub counted : (f : FoldOf) (n : ℕ) → f.scan.fold ≡ kind.Count → f.scan.tests ≡ []

@@ -12,7 +12,7 @@ ghost use Rattle.fragment_folds.specs.Folding.{begun, folded, finished, rows_in}
 
 use crate::faults::Overflow;
 use batch_masks::{Total, mask_of};
-use fold_rows::{State, count_with, nothing_of, with_kept_rows};
+use fold_rows::{State, count_with, nothing_of, with_kept_rows, with_whole};
 use fragment_outcome::{Answer, Groups};
 use fragment_plan::{Plan, Scan, Work};
 use orc_values::Column;
@@ -69,8 +69,8 @@ fn batch_rows(columns: &[Column]) -> usize
     }
 }
 
-/// What a fold has with a batch more of so many rows.
-fn with_batch(
+/// What a fold has with those rows more of a batch that pass, by a flag for each.
+fn with_passing(
     alloc: Global,
     scan: &Scan,
     state: State,
@@ -88,6 +88,29 @@ fn with_batch(
 {
     let mut mask = mask_of(alloc, scan.tests.as_slice(), columns, rows)?;
     with_kept_rows(alloc, &scan.fold, state, given, columns, &mut mask)
+}
+
+/// What a fold has with a batch more of so many rows.
+fn with_batch(
+    alloc: Global,
+    scan: &Scan,
+    state: State,
+    given: u64,
+    columns: &[Column],
+    rows: usize,
+) -> Result<State, NoMemory>
+    requires bounds { ScanInBounds scan.now }
+    requires width { length columns.now ≡ length scan.now.columns }
+    requires rows { All (λ column. length column ≡ rows) columns.now }
+    requires few { given + rows < 2 ^ 63 }
+    requires bound { SumOfFew given (sum_in state) }
+    ensures state { IfOk result (λ new. new ≡ with_rows scan.now.fold state (passing scan.now.tests (rows_of rows columns.now))) }
+    ensures bound { IfOk result (λ new. SumOfFew (given + rows) (sum_in new)) }
+{
+    if scan.tests.as_slice().is_empty() {
+        return with_whole(alloc, &scan.fold, state, given, columns, rows);
+    }
+    with_passing(alloc, scan, state, given, columns, rows)
 }
 
 impl Fold {

@@ -1,6 +1,5 @@
-use Rattle.std.proofs.Common.{ℕ, ℤ, Bool, List, refl, ap, ◌∙◌, sym}
-use Rattle.std.specs.Ordering.{nat_cmp, int_cmp, bool_cmp}
-use Rattle.std.specs.Cmp.Lexicographic.{slice_cmp}
+use Rattle.std.proofs.Common.{Bool, refl, ap, ◌∙◌}
+use Rattle.std.specs.Ordering.{bool_cmp}
 use Rattle.orc_values.specs.Woven.{aligned}
 use Rattle.orc_values.specs.declared.value.Value.TheVariants as value
 use Rattle.fragment_plan.specs.declared.test.Check.TheVariants as check

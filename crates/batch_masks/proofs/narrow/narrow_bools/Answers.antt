@@ -1,4 +1,4 @@
-use Rattle.std.proofs.Common.{Bool, true, false, if◌then◌else◌, ◌≡◌, ap, ◌∙◌, sym}
+use Rattle.std.proofs.Common.{Bool, true, false, if◌then◌else◌, ◌≡◌, ap, ◌∙◌}
 use Rattle.std.specs.Ordering.{bool_cmp}
 use Rattle.orc_values.specs.Woven.{aligned}
 use Rattle.batch_masks.specs.Kept.{both}

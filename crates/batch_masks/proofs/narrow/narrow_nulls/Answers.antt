@@ -1,4 +1,4 @@
-use Rattle.std.proofs.Common.{arith, map, not, ◌∙◌, sym, length}
+use Rattle.std.proofs.Common.{arith, map, not, ◌∙◌, sym}
 use Rattle.std.proofs.lemmas.List.{length-map}
 use Rattle.batch_masks.proofs.Masks.{narrowed}
 use Rattle.batch_masks.proofs.narrow.narrow_nulls.Goals as goal
