@@ -7,7 +7,7 @@ use outside::MemorySink;
 use std::alloc::Global;
 
 /// A plan, the batches of its scans and what is printed of its last fragment. Lines and batches are parted by `|`, and scans by `/`.
-const FOLDS: [(&str, &str, &str); 16] = [
+const FOLDS: [(&str, &str, &str); 18] = [
     ("s sum x from t", "i1,2,_|i3", "s sum 6\n"),
     ("s sum x from t", "i_,_", "s sum null\n"),
     (
@@ -19,6 +19,16 @@ const FOLDS: [(&str, &str, &str); 16] = [
         "s sum x from t",
         "i9223372036854775807,1",
         "s failed overflow\n",
+    ),
+    (
+        "s sum x from t",
+        "i4503599627370495,-4503599627370496|i4503599627370496,-4503599627370497",
+        "s sum -2\n",
+    ),
+    (
+        "s sum x from t where y = true",
+        "i1,2,_,4 b1,0,1,1",
+        "s sum 5\n",
     ),
     ("n count from t where x != 2", "i1,2,_,3", "n count 2\n"),
     ("n count from t where x <= -1", "i-2,-1,_,0", "n count 2\n"),

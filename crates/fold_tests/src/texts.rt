@@ -13,53 +13,45 @@ fn fails(alloc: Global, plan: &Plan, failure: Failure, text: &str) -> bool {
     prints(alloc, plan, 1, &Outcome::Failure(failure), text)
 }
 
-fn causes_are_printed(alloc: Global) -> Option<bool> {
-    let plan = read_plan(alloc, PLAN.as_bytes()).ok()?;
-    let name = Bytes::new(b"url".to_vec(alloc).ok()?);
-    let fault = ColumnFault::Run(StreamName::Body, RunFault::PatchTooWide);
+/// Whether stripes that break are named, with their columns.
+fn stripes_are_named(alloc: Global, plan: &Plan) -> bool {
     let column = Failure::BrokenColumn {
         stripe: 3,
         column: 12,
-        fault,
+        fault: ColumnFault::Run(StreamName::Body, RunFault::PatchTooWide),
     };
     let footer = Failure::BrokenFooter {
         stripe: 0,
         fault: TailFault::StreamOutOfStripe,
     };
-    let broken = fails(
-        alloc,
-        &plan,
-        column,
-        "m failed broken stripe 3 column 12 data patch too wide\n",
-    ) && fails(
-        alloc,
-        &plan,
-        footer,
-        "m failed broken stripe 0 footer stream out of stripe\n",
-    );
-    let tails = fails(
-        alloc,
-        &plan,
-        Failure::BrokenTail(TailFault::NotOrc),
-        "m failed broken tail not orc\n",
-    ) && fails(
-        alloc,
-        &plan,
-        Failure::Compressed(1),
-        "m failed compressed 1\n",
-    );
-    let others = fails(
-        alloc,
-        &plan,
-        Failure::WrongKind(name),
-        "m failed wrong kind url\n",
-    ) && fails(
-        alloc,
-        &plan,
-        Failure::SourceFailed(0),
-        "m failed source a\n",
-    );
-    Some(broken && tails && others)
+    let text = "m failed broken stripe 3 column 12 data patch too wide\n";
+    let other = "m failed broken stripe 0 footer stream out of stripe\n";
+    fails(alloc, plan, column, text) && fails(alloc, plan, footer, other)
+}
+
+/// Whether tails that break are named, by any cause but a compression.
+fn tails_are_named(alloc: Global, plan: &Plan) -> bool {
+    let magic = Failure::BrokenTail(TailFault::NotOrc);
+    let types = Failure::BrokenTail(TailFault::BadTypes);
+    let compressed = Failure::Compressed(1);
+    fails(alloc, plan, magic, "m failed broken tail not orc\n")
+        && fails(alloc, plan, types, "m failed broken tail types\n")
+        && fails(alloc, plan, compressed, "m failed compressed 1\n")
+}
+
+/// Whether columns and fragments that fail are named.
+fn names_are_printed(alloc: Global, plan: &Plan) -> Option<bool> {
+    let name = Bytes::new(b"url".to_vec(alloc).ok()?);
+    let kind = Failure::WrongKind(name);
+    let source = Failure::SourceFailed(0);
+    let is_named = fails(alloc, plan, kind, "m failed wrong kind url\n");
+    Some(is_named && fails(alloc, plan, source, "m failed source a\n"))
+}
+
+fn causes_are_printed(alloc: Global) -> Option<bool> {
+    let plan = read_plan(alloc, PLAN.as_bytes()).ok()?;
+    let named = names_are_printed(alloc, &plan)?;
+    Some(named && stripes_are_named(alloc, &plan) && tails_are_named(alloc, &plan))
 }
 
 fn a_failed_write_is_told(alloc: Global) -> Option<bool> {
