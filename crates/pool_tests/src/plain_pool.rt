@@ -82,6 +82,25 @@ fn block(place: u32, order: u32) -> Block {
     Block { place, order }
 }
 
+/// So many bytes from the file's beginning.
+fn key(len: u32) -> BufferKey {
+    BufferKey {
+        file: 0,
+        at: 0,
+        len,
+    }
+}
+
+/// The buffer moves to place 2.
+fn move_to_2(seat: u32, cells: Sequence<u64>) -> Step {
+    Step::BeginMove {
+        seat,
+        header: 0,
+        target: block(2, 0),
+        cells,
+    }
+}
+
 fn step_of(alloc: Global, row: Row) -> Result<Step, AllocError> {
     let header = 0;
     Ok(match row {
@@ -102,11 +121,7 @@ fn step_of(alloc: Global, row: Row) -> Result<Step, AllocError> {
         Row::Name(seat, len) => Step::Name {
             seat,
             header,
-            key: BufferKey {
-                file: 0,
-                at: 0,
-                len,
-            },
+            key: key(len),
         },
         Row::Fill(seat, value) => Step::Fill {
             seat,
@@ -118,12 +133,7 @@ fn step_of(alloc: Global, row: Row) -> Result<Step, AllocError> {
         Row::Unpin(seat) => Step::Unpin { seat, header },
         Row::BeginEvict(seat) => Step::BeginEvict { seat, header },
         Row::Release(seat) => Step::Release { seat, header },
-        Row::BeginMove(seat) => Step::BeginMove {
-            seat,
-            header,
-            target: block(2, 0),
-            cells: cells(alloc)?,
-        },
+        Row::BeginMove(seat) => move_to_2(seat, cells(alloc)?),
         Row::Copy(seat) => Step::Copy { seat, header },
         Row::Settle(seat) => Step::Settle { seat, header },
         Row::Cancel(seat) => Step::Cancel { seat, header },
