@@ -30,6 +30,7 @@ use Rattle.cache_placement.specs.Placements.{IsFilled, IsLost, IsPlacement}
 use Rattle.cache_room.specs.declared.wanted.Wanted.{Wanted}
 use Rattle.cache_room.specs.Quiet.{AreKnown, IsQuiet, consult_releases, consult_touches, quiet_consult, quiet_held, quiet_none, quiet_out, quiet_then}
 use Rattle.cache_room.specs.Rooms.{HeadersTried, IfNoRoom, IsSetTried, IsWayFreed, MakesRoom, RoomLeft, WaysTried, counted, unless_full}
+use Rattle.cache_room.specs.Touchings.{place_touchings}
 use Rattle.cache_room.specs.Tried.{IsTried, last_saw, releases}
 use Rattle.cache_room.specs.TriedLaws.{held_end, held_releases, out_end, out_released, out_releases, place_releases, releases-append, saw_away, saw_here, touch_front, tried_back, tried_front, tried_over}
 
@@ -190,7 +191,7 @@ module _ (files : Option Files) (g : Geometry) (id : ℕ) (wanted : Wanted) (sta
     still_full : (words : List ℕ) → IsPlacement files g id wanted.key wanted.order wanted.first wanted.states from until us u w (Bypass (NoRoom words)) → HeadersTried files g id wanted.key start (slice_set tried header true) evicted' w
     still_full words p =
         let after : IsQuiet files g id wanted.key u us w =
-        record { right = p.right; before = p.leaves; ungranted = λ x f there. no_grant words (p.granted x f there); unopened = p.opened; unpublished = p.published } in
+        record { right = p.right; before = p.leaves; ungranted = λ x f there. no_grant words (p.granted x f there); unopened = p.opened; unpublished = p.published; untouched = place_touchings us p.only } in
         let sum = releases-append (c.ss ++ ts) us in
         let none = place_releases us p.only in
         let so_far = counts in
@@ -288,7 +289,7 @@ module _ (files : Option Files) (g : Geometry) (id : ℕ) (wanted : Wanted) (fro
   -- a placement that found no room left the seat what it had
   pub quiet_full : (placed : Placed) → unless_full placed ≡ None → IsPlacement files g id wanted.key wanted.order wanted.first wanted.states from until us v w placed → IsQuiet files g id wanted.key v us w
   quiet_full (Filled pin) e p = absurd (not_full (Filled pin) e)
-  quiet_full (Bypass (NoRoom words)) e p = record { right = p.right; before = p.leaves; ungranted = λ x f there. no_room_grants words (p.granted x f there); unopened = p.opened; unpublished = p.published }
+  quiet_full (Bypass (NoRoom words)) e p = record { right = p.right; before = p.leaves; ungranted = λ x f there. no_room_grants words (p.granted x f there); unopened = p.opened; unpublished = p.published; untouched = place_touchings us p.only }
   quiet_full (Bypass (Raced saw)) e p = absurd (not_full (Bypass (Raced saw)) e)
   quiet_full (Bypass (Busy word)) e p = absurd (not_full (Bypass (Busy word)) e)
   quiet_full (Bypass (SetFull states)) e p = absurd (not_full (Bypass (SetFull states)) e)

@@ -1,5 +1,6 @@
 pub mod Tried
 pub mod TriedLaws
+pub mod Touchings
 pub mod Quiet
 pub mod Rooms
 pub mod Searches

@@ -36,17 +36,19 @@ use Rattle.cache_lookup.specs.Right.{AreRight, IsRight}
 use Rattle.cache_lookup.specs.Trails.{Among}
 use Rattle.cache_lookup.specs.TrailLaws.{among_either}
 use Rattle.cache_placement.specs.Publications.{publications, publications-append, published_by}
+use Rattle.cache_room.specs.Touchings.{touched_by, touched_word, touchings, touchings-append}
 use Rattle.cache_room.specs.Tried.{HasTouch, releases, touches_loaded}
 use Rattle.cache_room.specs.TriedLaws.{no_releases, touch_back, touch_front}
 
--- The seat made these steps of a call for that key. Each was right at its moment, none granted a block, opened a header or published
--- a buffer, and the seat has what it had.
+-- The seat made these steps of a call for that key. Each was right at its moment, none granted a block, opened or touched a header or
+-- published a buffer, and the seat has what it had.
 pub record IsQuiet (files : Option Files) (g : Geometry) (id : ℕ) (key : Key) (old : View) (ss : List WordStep) (new : View) : Type 0 where
   pub right : AreRight files g id key ⊥ old [] old ss new
   pub before : IsAsBefore old new
   pub ungranted : (b : Block) (found : ℕ) → Among (Granted b found) ss → ⊥
   pub unopened : (header : ℕ) (b : Block) (cells : List ℕ) → Among (Opened header b cells) ss → ⊥
   pub unpublished : publications ss ≡ 0
+  pub untouched : touchings ss ≡ 0
 
 -- ---- a load of a key word
 
@@ -96,7 +98,7 @@ key_mark header found v =
       | inr past ↦
           ap (λ (l : List Mark). slice_index_or l header clear_mark) (set_past v.marks header m past)
           ∙ (get_or_past v.marks header clear_mark past
-              ∙ sym (ap (mark_with_key (key_of found)) (get_or_past v.marks header clear_mark past)))
+          ∙ sym (ap (mark_with_key (key_of found)) (get_or_past v.marks header clear_mark past)))
     ]
 
 module _ (files : Option Files) (g : Geometry) (id : ℕ) (header found : ℕ) (start v w : View)
@@ -119,8 +121,8 @@ module _ (files : Option Files) (g : Geometry) (id : ℕ) (header found : ℕ) (
               | inl same ↦
                   ap (λ n. bare (mark_at w n).claim) same
                   ∙ (ap (λ (x : Mark). bare x.claim) key_here
-                      ∙ (bare_key (key_of found) (mark_at v header).claim
-                      ∙ (ap (λ n. bare (mark_at v n).claim) (sym same) ∙ c.claims other)))
+                  ∙ (bare_key (key_of found) (mark_at v header).claim
+                  ∙ (ap (λ n. bare (mark_at v n).claim) (sym same) ∙ c.claims other)))
               | inr apart ↦ ap (λ (x : Mark). bare x.claim) (key_there other apart) ∙ c.claims other
             ];
         grants = λ place. made_granted files g id (Looked (KeyOf header) found) v w m place (none-some place) ∙ c.grants place;
@@ -129,8 +131,8 @@ module _ (files : Option Files) (g : Geometry) (id : ℕ) (header found : ℕ) (
               | inl same ↦
                   ap (λ n. (mark_at w n).hold) same
                   ∙ (ap (λ (x : Mark). x.hold) key_here
-                      ∙ (known_stays (key_of found) (mark_at v header).hold is_known
-                      ∙ (ap (λ n. (mark_at v n).hold) (sym same) ∙ c.holds other)))
+                  ∙ (known_stays (key_of found) (mark_at v header).hold is_known
+                  ∙ (ap (λ n. (mark_at v n).hold) (sym same) ∙ c.holds other)))
               | inr apart ↦ ap (λ (x : Mark). x.hold) (key_there other apart) ∙ c.holds other
             ];
       }
@@ -198,8 +200,15 @@ module _ (g : Geometry) (key : Key) (hit : Type 0) (start : View) (before : List
 
 module _ (files : Option Files) (g : Geometry) (id : ℕ) (key : Key) where
   pub quiet_none : (v : View) → IsQuiet files g id key v [] v
-  quiet_none v = record { right = refl; before = as_before v; ungranted = λ b f ended. ended; unopened = λ h b c
-      ended. ended; unpublished = refl }
+  quiet_none v = record {
+    right = refl;
+    before = as_before v;
+    ungranted = λ b f ended. ended;
+    unopened = λ h b c
+        ended. ended;
+    unpublished = refl;
+    untouched = refl;
+  }
 
   pub quiet_then : (v u w : View) (ss ts : List WordStep) → IsQuiet files g id key v ss u
       → IsQuiet files g id key u ts w → IsQuiet files g id key v (ss ++ ts) w
@@ -212,27 +221,32 @@ module _ (files : Option Files) (g : Geometry) (id : ℕ) (key : Key) where
         unopened = λ h b cells there. elim (among_either (Opened h b cells) ss ts there)
             [ inl front ↦ p.unopened h b cells front | inr rest ↦ q.unopened h b cells rest ];
         unpublished = (let sum = publications-append ss ts in let a = p.unpublished in let b = q.unpublished in omega (arith, sum, a, b));
+        untouched = (let sum = touchings-append ss ts in let a = p.untouched in let b = q.untouched in omega (arith, sum, a, b));
       }
 
   -- an update of a free word
-  pub quiet_updated : (word : WordName) (found left : ℕ) (v w : View)
+  pub quiet_updated : (word : WordName) (found left : ℕ) (v w : View) → touched_word word ≡ 0
       → IsMade files g id (Updated word found left) v w → IsQuiet files g id key v (Updated word found left ∷ []) w
-  quiet_updated word found left v w m =
+  quiet_updated word found left v w still m =
       record {
         right = (w, m, right_updated g key ⊥ v [] word found left v, refl);
         before = before_made files g id (Updated word found left) v v w m refl refl (as_before v);
         ungranted = λ b f there. elim there [ inl e ↦ (let no : ⊥ = cc in no) | inr ended ↦ ended ];
         unopened = λ h b cells there. elim there [ inl e ↦ (let no : ⊥ = cc in no) | inr ended ↦ ended ];
         unpublished = refl;
+        untouched = omega (arith, still);
       }
 
   -- touches are right at any moment
   pub touch_right : (hit : Type 0) (start : View) (before : List WordStep) (header tick touches last : ℕ)
       (v w : View) → AreMade files g id (touch_steps header tick touches last) v w
       → AreRight files g id key hit start before v (touch_steps header tick touches last) w
-  touch_right hit start before header tick touches last v w all =
-      (all.0, all.1, right_updated g key hit start before (Touches header) touches _ v,
-          (all.2.0, all.2.1, right_updated g key hit start _ (Last header) last _ all.0, all.2.2))
+  touch_right hit start before header tick touches last v w all = (
+    all.0,
+    all.1,
+    right_updated g key hit start before (Touches header) touches _ v,
+    (all.2.0, all.2.1, right_updated g key hit start _ (Last header) last _ all.0, all.2.2),
+  )
 
   pub touch_before : (header tick touches last : ℕ) (v w : View)
       → AreMade files g id (touch_steps header tick touches last) v w → IsAsBefore v w
@@ -250,23 +264,43 @@ module _ (files : Option Files) (g : Geometry) (id : ℕ) (key : Key) where
   quiet_held header ss word v w (try.shown _ ne) all marks grants =
       record {
         right = (all.0, all.1, right_state g key ⊥ v [] header word v (as_before v), all.2);
-        before = record { claims = λ h. ap (λ (x : Mark). bare x.claim) (marks h); grants = grants; holds = λ h. ap
-            (λ (x : Mark). x.hold) (marks h) };
+        before = record {
+          claims = λ h. ap (λ (x : Mark). bare x.claim) (marks h);
+          grants = grants;
+          holds = λ h. ap
+              (λ (x : Mark). x.hold) (marks h);
+        };
         ungranted = λ b f there. elim there [ inl e ↦ (let no : ⊥ = cc in no) | inr ended ↦ ended ];
         unopened = λ h b cells there. elim there [ inl e ↦ (let no : ⊥ = cc in no) | inr ended ↦ ended ];
         unpublished = refl;
+        untouched = refl;
       }
   quiet_held header ss word v w (try.lost seen _ idle ne) all marks grants =
       record {
-        right = (all.0, all.1, right_state g key ⊥ v [] header seen v (as_before v),
-            (all.2.0, all.2.1, right_missed g key ⊥ v _ (State header) word all.0, all.2.2));
-        before = record { claims = λ h. ap (λ (x : Mark). bare x.claim) (marks h); grants = grants; holds = λ h. ap
-            (λ (x : Mark). x.hold) (marks h) };
-        ungranted = λ b f there. elim there [ inl e ↦ (let no : ⊥ = cc in no) | inr more ↦ elim more
-            [ inl e ↦ (let no : ⊥ = cc in no) | inr ended ↦ ended ] ];
-        unopened = λ h b cells there. elim there [ inl e ↦ (let no : ⊥ = cc in no) | inr more ↦ elim more
-            [ inl e ↦ (let no : ⊥ = cc in no) | inr ended ↦ ended ] ];
+        right = (
+          all.0,
+          all.1,
+          right_state g key ⊥ v [] header seen v (as_before v),
+          (all.2.0, all.2.1, right_missed g key ⊥ v _ (State header) word all.0, all.2.2),
+        );
+        before = record {
+          claims = λ h. ap (λ (x : Mark). bare x.claim) (marks h);
+          grants = grants;
+          holds = λ h. ap
+              (λ (x : Mark). x.hold) (marks h);
+        };
+        ungranted = λ b f there. elim there [
+          | inl e ↦ (let no : ⊥ = cc in no)
+          | inr more ↦ elim more
+              [ inl e ↦ (let no : ⊥ = cc in no) | inr ended ↦ ended ]
+        ];
+        unopened = λ h b cells there. elim there [
+          | inl e ↦ (let no : ⊥ = cc in no)
+          | inr more ↦ elim more
+              [ inl e ↦ (let no : ⊥ = cc in no) | inr ended ↦ ended ]
+        ];
         unpublished = refl;
+        untouched = refl;
       }
 
   pub quiet_out : (header : ℕ) (ss : List WordStep) (b : Block) (v w : View) → OutSteps header ss b
@@ -282,27 +316,46 @@ module _ (files : Option Files) (g : Geometry) (id : ℕ) (key : Key) where
             all.2.0,
             all.2.1,
             right_begun g key ⊥ v _ header word all.0,
-            (all.2.2.0, all.2.2.1, right_released g key ⊥ v _ header _ released all.2.0,
-                (all.2.2.2.0, all.2.2.2.1, right_returned g key ⊥ v _ _ given all.2.2.0, all.2.2.2.2)),
+            (
+              all.2.2.0,
+              all.2.2.1,
+              right_released g key ⊥ v _ header _ released all.2.0,
+              (all.2.2.2.0, all.2.2.2.1, right_returned g key ⊥ v _ _ given all.2.2.0, all.2.2.2.2),
+            ),
           ),
         );
-        before = record { claims = λ h. ap (λ (x : Mark). bare x.claim) (marks h); grants = grants; holds = λ h. ap
-            (λ (x : Mark). x.hold) (marks h) };
+        before = record {
+          claims = λ h. ap (λ (x : Mark). bare x.claim) (marks h);
+          grants = grants;
+          holds = λ h. ap
+              (λ (x : Mark). x.hold) (marks h);
+        };
         ungranted = λ c f there.
             elim there [
               | inl e ↦ (let no : ⊥ = cc in no)
-              | inr more ↦ elim more [ inl e ↦ (let no : ⊥ = cc in no) | inr more2 ↦ elim more2
-                  [ inl e ↦ (let no : ⊥ = cc in no) | inr more3 ↦
-                  elim more3 [ inl e ↦ (let no : ⊥ = cc in no) | inr ended ↦ ended ] ] ]
+              | inr more ↦ elim more [
+                | inl e ↦ (let no : ⊥ = cc in no)
+                | inr more2 ↦ elim more2 [
+                  | inl e ↦ (let no : ⊥ = cc in no)
+                  | inr more3 ↦
+                      elim more3 [ inl e ↦ (let no : ⊥ = cc in no) | inr ended ↦ ended ]
+                ]
+              ]
             ];
         unopened = λ h c cells there.
             elim there [
               | inl e ↦ (let no : ⊥ = cc in no)
-              | inr more ↦ elim more [ inl e ↦ (let no : ⊥ = cc in no) | inr more2 ↦ elim more2
-                  [ inl e ↦ (let no : ⊥ = cc in no) | inr more3 ↦
-                  elim more3 [ inl e ↦ (let no : ⊥ = cc in no) | inr ended ↦ ended ] ] ]
+              | inr more ↦ elim more [
+                | inl e ↦ (let no : ⊥ = cc in no)
+                | inr more2 ↦ elim more2 [
+                  | inl e ↦ (let no : ⊥ = cc in no)
+                  | inr more3 ↦
+                      elim more3 [ inl e ↦ (let no : ⊥ = cc in no) | inr ended ↦ ended ]
+                ]
+              ]
             ];
         unpublished = refl;
+        untouched = refl;
       }
 
 -- ---- consultations
@@ -334,6 +387,17 @@ learn_published s (load_last h f) = refl
 learn_publishes : (ss : List WordStep) → AreLearnSteps ss → publications ss ≡ 0
 learn_publishes [] are = refl
 learn_publishes (s ∷ ss) are = let here = learn_published s are.0 in let rest = learn_publishes ss are.1 in omega (arith, here, rest)
+
+learn_touched : (s : WordStep) → IsLearnStep s → touched_by s ≡ 0
+learn_touched s (load_touches h f) = refl
+learn_touched s (take_touches h f) = refl
+learn_touched s (load_key h f) = refl
+learn_touched s (load_last h f) = refl
+
+learn_touchings : (ss : List WordStep) → AreLearnSteps ss → touchings ss ≡ 0
+learn_touchings [] are = refl
+learn_touchings (s ∷ ss) are =
+    let here = learn_touched s are.0 in let rest = learn_touchings ss are.1 in omega (arith, here, rest)
 
 learns_none : (t : WordStep) → ((s : WordStep) → IsLearnStep s → s ≡ t → ⊥) → (ss : List WordStep) → AreLearnSteps ss → Among t ss → ⊥
 learns_none t not [] are ended = ended
@@ -396,7 +460,19 @@ module _ (files : Option Files) (g : Geometry) (id : ℕ) (key : Key) (start : V
         ungranted = λ b f there. learns_none (Granted b f) (λ s is e. learn_grants s b f is e) ss are there;
         unopened = λ header b cells there. learns_none (Opened header b cells) (λ s is e. learn_opens s header b cells is e) ss are there;
         unpublished = learn_publishes ss are;
+        untouched = learn_touchings ss are;
       }
 
-pub ruleset quiet = (are_known, known_later, no_pin_later, quiet_none, quiet_then, quiet_updated, quiet_held,
-    quiet_out, quiet_consult, consult_releases, consult_touches)
+pub ruleset quiet = (
+  are_known,
+  known_later,
+  no_pin_later,
+  quiet_none,
+  quiet_then,
+  quiet_updated,
+  quiet_held,
+  quiet_out,
+  quiet_consult,
+  consult_releases,
+  consult_touches,
+)

@@ -64,8 +64,11 @@ pub place_evicts : (ss : List WordStep) → ((s : WordStep) → Among s ss → I
 place_evicts ss only header found there = no_evict header found (only (EvictBegun header found) there)
 
 pub evicts_both : (xs ys : List WordStep) → EvictsNone xs → EvictsNone ys → EvictsNone (xs ++ ys)
-evicts_both xs ys p q header found there = elim (among_either (EvictBegun header found) xs ys there) [ inl front ↦ p
-    header found front | inr rest ↦ q header found rest ]
+evicts_both xs ys p q header found there = elim (among_either (EvictBegun header found) xs ys there) [
+  | inl front ↦ p
+      header found front
+  | inr rest ↦ q header found rest
+]
 
 -- ---- searches
 
@@ -102,8 +105,15 @@ pub searched_behind : (files : Option Files) (g : Geometry) (id : ℕ) (full : B
     (us : List WordStep) (old mid new : View) → EvictsNone us → AreMade files g id us old mid
     → Searches files g id 0 (headers_of g) full p now mid new → SearchesIf files g id full p now old new
 searched_behind files g id full p now us old mid new none made s =
-    record { front = us; ss = s.ss; made = all_then files g id us s.ss old mid new made s.made; none_at_first =
-        none; search = inr s.search; all = s.all }
+    record {
+      front = us;
+      ss = s.ss;
+      made = all_then files g id us s.ss old mid new made s.made;
+      none_at_first =
+          none;
+      search = inr s.search;
+      all = s.all;
+    }
 
 -- an answer that isn't for want of room
 pub not_no_room : (placed answer : Placed) → unless_full placed ≡ Some answer → is_no_room answer ≡ false
@@ -247,5 +257,18 @@ ranked_none g first p now why ss same none full =
       full = full;
     }
 
-pub ruleset searches = (place_tries, place_forgets, place_evicts, evicts_both, searched, unsearched, searched_behind,
-    not_no_room, ranked_free, ranked_freed, ranked_full, ranked_within, ranked_none)
+pub ruleset searches = (
+  place_tries,
+  place_forgets,
+  place_evicts,
+  evicts_both,
+  searched,
+  unsearched,
+  searched_behind,
+  not_no_room,
+  ranked_free,
+  ranked_freed,
+  ranked_full,
+  ranked_within,
+  ranked_none,
+)

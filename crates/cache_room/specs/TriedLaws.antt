@@ -158,24 +158,44 @@ module _ (g : Geometry) where
       → last_saw (header_word g other) (events g ss) ≡ None
   held_away header other ss word apart (try.shown _ ne) =
       let away : header_word g header ≢ header_word g other = λ e. apart (omega (arith, e)) in
-          rw (ne_eqb (header_word g header) (header_word g other) away) refl
+      rw (ne_eqb (header_word g header) (header_word g other) away) refl
   held_away header other ss word apart (try.lost seen _ idle ne) =
       let away : header_word g header ≢ header_word g other = λ e. apart (omega (arith, e)) in
-          rw (ne_eqb (header_word g header) (header_word g other) away) refl
+      rw (ne_eqb (header_word g header) (header_word g other) away) refl
 
   pub saw_here : (header : ℕ) (xs ys : List WordStep) (word : ℕ) → HeldSteps header ys word
       → last_saw (header_word g header) (events g (xs ++ ys)) ≡ Some word
   saw_here header xs ys word h =
       ap (last_saw (header_word g header)) (events-append g xs ys)
-          ∙ last_saw-back (header_word g header) word (events g xs) (events g ys) (held_saw header ys word h)
+      ∙ last_saw-back (header_word g header) word (events g xs) (events g ys) (held_saw header ys word h)
 
   pub saw_away : (header other : ℕ) (xs ys : List WordStep) (word value : ℕ) → header ≢ other
       → HeldSteps header ys word → last_saw (header_word g other) (events g xs) ≡ Some value
       → last_saw (header_word g other) (events g (xs ++ ys)) ≡ Some value
   saw_away header other xs ys word value apart h was =
       ap (last_saw (header_word g other)) (events-append g xs ys)
-          ∙ (last_saw-front (header_word g other) (events g xs) (events g ys)
-          (held_away header other ys word apart h) ∙ was)
+      ∙ (last_saw-front (header_word g other) (events g xs) (events g ys)
+      (held_away header other ys word apart h) ∙ was)
 
-pub ruleset trials = (ends_front, ends_back, touch_front, touch_back, tried_front, tried_back, tried_over, held_end,
-    out_end, releases-append, held_releases, out_releases, out_released, no_releases, place_releases, last_saw-append, last_saw-back, last_saw-front, saw_here, saw_away)
+pub ruleset trials = (
+  ends_front,
+  ends_back,
+  touch_front,
+  touch_back,
+  tried_front,
+  tried_back,
+  tried_over,
+  held_end,
+  out_end,
+  releases-append,
+  held_releases,
+  out_releases,
+  out_released,
+  no_releases,
+  place_releases,
+  last_saw-append,
+  last_saw-back,
+  last_saw-front,
+  saw_here,
+  saw_away,
+)

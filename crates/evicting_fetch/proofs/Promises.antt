@@ -34,6 +34,7 @@ use Rattle.cache_placement.specs.Placements as placement
 use Rattle.cache_room.specs.declared.wanted.Wanted.{Wanted}
 use Rattle.cache_room.specs.Quiet.{IsQuiet, quiet_then, quiet_updated, touch_before, touch_right}
 use Rattle.cache_room.specs.Rooms.{IfNoRoom, IsRoom, IsSetTried, IsWayFreed, counted, in_free, in_freed, in_none}
+use Rattle.cache_room.specs.Touchings.{look_touchings, place_touchings, touchings-append}
 use Rattle.cache_room.specs.Tried.{IsTried, last_saw, releases}
 use Rattle.cache_room.specs.TriedLaws.{last_saw-back, no_releases, place_releases, releases-append, tried_back, tried_front}
 use Rattle.range_cache.specs.declared.ranged.Grip.TheVariants as grip
@@ -80,7 +81,7 @@ module _ (files : Option Files) (g : Geometry) (id : ℕ) (key : Key) (clock : �
   tick = Updated Clock clock (next_tick clock)
 
   tick_quiet : IsQuiet files g id key v (tick ∷ []) u0
-  tick_quiet = quiet_updated files g id key Clock clock (next_tick clock) v u0 t
+  tick_quiet = quiet_updated files g id key Clock clock (next_tick clock) v u0 refl t
 
   tick_known : (words : List ℕ) → v.known ≡ Some words → u0.known ≡ Some (ticked g words)
   tick_known words e =
@@ -125,6 +126,7 @@ module _ (files : Option Files) (g : Geometry) (id : ℕ) (key : Key) (clock : �
                 | inr rest ↦ touch_opens h b cells (pin_header pin) (next_tick clock) touches last rest
               ]);
           published = (let made = publications-append ss end in let no = look_publishes ss l.only in omega (arith, made, no));
+          touched = (let made = touchings-append ss end in let no = look_touchings ss l.only in omega (arith, made, no));
           trail = right_trail files g id key (Unit {0}) v [] (tick ∷ (ss ++ end)) v x
               (right_then files g id key (Unit {0}) v [] (tick ∷ ss) end v u1 x whole (touch_right files g id key (Unit {0}) v (tick ∷ ss) (pin_header pin) (next_tick clock) touches last u1 x made));
           clock = record { clock = clock; between = ss; end = end; steps = refl; touch = (touches, last, refl) };
@@ -144,6 +146,7 @@ module _ (files : Option Files) (g : Geometry) (id : ℕ) (key : Key) (clock : �
           ungranted = λ b f there. no_grant b f (only (Granted b f) there);
           unopened = λ h b cells there. no_open h b cells (only (Opened h b cells) there);
           unpublished = look_publishes ss only;
+          untouched = look_touchings ss only;
         })
 
     pub busy : (word : ℕ) → IsLookUp files g id key ss states u0 u1 (found.Busy word) → IsFetch files g id key (tick ∷ ss) v u1 (ranged_by (Bypass (Busy word)) 0 (grip.Bypass key))
@@ -157,6 +160,7 @@ module _ (files : Option Files) (g : Geometry) (id : ℕ) (key : Key) (clock : �
           granted = λ b f there. absurd (q.ungranted b f there);
           opened = λ h b cells there. absurd (q.unopened h b cells there);
           published = q.unpublished;
+          touched = q.untouched;
           trail = right_trail files g id key ⊥ v [] (tick ∷ ss) v u1 q.right;
           clock = record { clock = clock; between = ss; end = []; steps = ap (λ x. tick ∷ x) (sym (append-nil ss)); touch = refl };
           evicted = omega (arith, none);
@@ -243,6 +247,7 @@ module _ (files : Option Files) (g : Geometry) (id : ℕ) (key : Key) (clock : �
               granted = λ b f there. absurd (q.ungranted b f there);
               opened = λ h b cells there. absurd (q.unopened h b cells there);
               published = q.unpublished;
+              touched = q.untouched;
               trail = right_trail files g id key ⊥ v [] all v w q.right;
               clock = record { clock = clock; between = ss ++ s.ss; end = []; steps = ap (λ x. tick ∷ x) (sym (append-nil (ss ++ s.ss))); touch = refl };
               evicted = omega (arith, sum, zero);
@@ -280,6 +285,7 @@ module _ (files : Option Files) (g : Geometry) (id : ℕ) (key : Key) (clock : �
                 granted = λ b f there. inl tt;
                 opened = λ h b cells there. tt;
                 published = (let one = publications-append (pre ++ more) ts in let two = publications-append all end in let no = q.unpublished in let is_one = p.published in omega (arith, one, two, no, is_one));
+                touched = (let one = touchings-append (pre ++ more) ts in let two = touchings-append all end in let no = q.untouched in let none = place_touchings ts p.only in omega (arith, one, two, no, none));
                 trail = right_trail files g id key ⊥ v [] (all ++ end) v x
                     (right_then files g id key ⊥ v [] all end v w x whole (touch_right files g id key ⊥ v all (pin_header pin) (next_tick clock) touches last w x made));
                 clock = record { clock = clock; between = (ss ++ more) ++ ts; end = end; steps = refl; touch = (touches, last, refl) };
@@ -372,6 +378,7 @@ module _ (files : Option Files) (g : Geometry) (id : ℕ) (key : Key) (clock : �
                   | inr rest ↦ p.opened h b cells rest
                 ];
             published = (let one = publications-append (pre ++ more) ts in let no = q.unpublished in let is_none = p.published in omega (arith, one, no, is_none));
+            touched = (let one = touchings-append (pre ++ more) ts in let no = q.untouched in let none = place_touchings ts p.only in omega (arith, one, no, none));
             trail = right_trail files g id key ⊥ v [] all v w (right_parts files g id key ⊥ v mid w (pre ++ more) ts q.right q.before p.right);
             clock = record { clock = clock; between = (ss ++ more) ++ ts; end = []; steps = ap (λ x. tick ∷ x) (sym (append-nil ((ss ++ more) ++ ts))); touch = refl };
             evicted = released p.only;

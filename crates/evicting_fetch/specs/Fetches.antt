@@ -24,6 +24,7 @@ use Rattle.cache_placement.specs.Free.{IsOrder}
 use Rattle.cache_placement.specs.Placements.{HasNoRoom, IsArenaRaced, IsHeaderRaced}
 use Rattle.cache_placement.specs.Publications.{publications}
 use Rattle.cache_room.specs.Rooms.{counted}
+use Rattle.cache_room.specs.Touchings.{touchings}
 use Rattle.cache_room.specs.Tried.{IsTried, last_saw}
 use Rattle.range_cache.specs.declared.ranged.Grip.{Grip}
 use Rattle.range_cache.specs.declared.ranged.Grip.TheVariants as grip
@@ -85,6 +86,12 @@ Tells g key ss (Bypass PolicyOut) = ⊥
 
 -- ---- the clock
 
+-- what is pinned is touched once
+abbrev pub touched_for : How → ℕ
+touched_for Hit = 1
+touched_for Filled = 1
+touched_for (Bypass why) = 0
+
 -- the clock's value after a tick
 abbrev pub next_tick : ℕ → ℕ
 next_tick clock = (clock + 1) % 2 ^ 64
@@ -126,8 +133,8 @@ IsLooked g key words new (Bypass PolicyOut) = ⊥
 
 -- The seat fetched a range by these steps, with that answer, and its trail grew by them and by no others. A pin of the key makes it a
 -- hit; a grant makes it filled, or the header was lost; an opening makes it filled; and one buffer is published where it is filled, and
--- else none. `evicted` counts the headers that were released. If the seat knows the words, whether the range is in the cache follows from
--- them as they are after the tick.
+-- else none. What is pinned is touched, once, and nothing else is. `evicted` counts the headers that were released. If the seat knows the
+-- words, whether the range is in the cache follows from them as they are after the tick.
 pub record IsFetch (files : Option Files) (g : Geometry) (id : ℕ) (key : Key) (ss : List WordStep) (old new : View)
     (ranged : Ranged) : Type 0 where
   pub right : AreRight files g id key (IsHit ranged.how) old [] old ss new
@@ -136,6 +143,7 @@ pub record IsFetch (files : Option Files) (g : Geometry) (id : ℕ) (key : Key) 
   pub granted : (b : Block) (found : ℕ) → Among (Granted b found) ss → IsFilled ranged.how ⊎ IsLost ss ranged.how
   pub opened : (header : ℕ) (b : Block) (cells : List ℕ) → Among (Opened header b cells) ss → IsFilled ranged.how
   pub published : publications ss ≡ made_by ranged.how
+  pub touched : touchings ss ≡ touched_for ranged.how
   pub trail : new.trail ≡ old.trail ++ events g ss
   pub clock : IsTicked ss ranged.held
   pub evicted : ranged.evicted ≡ counted ss

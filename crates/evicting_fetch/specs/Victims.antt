@@ -25,4 +25,4 @@ why_not (Bypass why) = Some why
 abbrev pub TakesVictims : {W : Type 0} → Option Files → Pool W → PoolSeat W → PoolSeat W → Key → Evictor → Evictor → How → Type 0
 TakesVictims files pool old new key before after how =
     Ranks files (sizes_of pool) (seat_id old) (first_way (sizes_of pool) key) (policy_of before) (policy_of after)
-        (view old) (view new) (why_not how)
+    (view old) (view new) (why_not how)

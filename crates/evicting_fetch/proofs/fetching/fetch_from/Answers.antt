@@ -112,14 +112,14 @@ pub look_up-requires-clause-no_pin : goal.look_up-requires-clause-no_pin
 look_up-requires-clause-no_pin g c =
     let m = c.tick-now.ensures.made in
     no_pin_later (buffer_key c.args.key) (view c.args.seat.now) (view c.tick-now.new.seat) c.requires.no_pin
-    (quiet_updated g.W.World.files (sizes_of c.args.pool.now) (seat_id c.args.seat.now) c.args.key Clock m.0 c.tick-now.result (view c.args.seat.now) (view c.tick-now.new.seat) m.2).before
+    (quiet_updated g.W.World.files (sizes_of c.args.pool.now) (seat_id c.args.seat.now) c.args.key Clock m.0 c.tick-now.result (view c.args.seat.now) (view c.tick-now.new.seat) refl m.2).before
 
 pub place-placed-requires-clause-known : goal.place-placed-requires-clause-known
 place-placed-requires-clause-known g c =
     let m = c.tick-now.ensures.made in
     let key = buffer_key c.args.key in
     let first = no_pin_later key (view c.args.seat.now) (view c.tick-now.new.seat) c.requires.no_pin
-    (quiet_updated g.W.World.files (sizes_of c.args.pool.now) (seat_id c.args.seat.now) c.args.key Clock m.0 c.tick-now.result (view c.args.seat.now) (view c.tick-now.new.seat) m.2).before in
+    (quiet_updated g.W.World.files (sizes_of c.args.pool.now) (seat_id c.args.seat.now) c.args.key Clock m.0 c.tick-now.result (view c.args.seat.now) (view c.tick-now.new.seat) refl m.2).before in
     let l = c.in-Missing.ensures.looked in
     are_known key (view c.look_up.new.seat) (no_pin_later key (view c.tick-now.new.seat) (view c.look_up.new.seat) first l.1.leaves)
 
