@@ -115,7 +115,8 @@ impl<W: World> Words<W> {
         requires claim { (mark_at (view seat.old) header).claim ≡ Fresh block (Some key) (cells_of key) }
         requires no_bid { (mark_at (view seat.old) header).hold ≢ Bid }
         ensures seat { IsStill (table_of self.now) (geometry_of self.now) seat.old seat.new }
-        ensures made { IsMade W.files (geometry_of self.now) seat.old.id (Published header block key result) (view seat.old) (view seat.new) }
+        ensures made { IsMade W.files (geometry_of self.now) seat.old.id (Published header block key result)
+            (view seat.old) (view seat.new) }
     {
         pool_model::laws::every_run_is_lawful();
         buffer_word::laws::publish_adds_15();
