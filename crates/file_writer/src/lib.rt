@@ -5,4 +5,4 @@
 
 mod stripes;
 
-pub use stripes::{WithStripe, push_stripe};
+pub use stripes::push_stripe;

@@ -1,35 +1,29 @@
 //! Stripes behind the bytes of a file.
 
-ghost use Rattle.std.specs.Prelude.{IfOk};
+ghost use Rattle.std.specs.Prelude.{◌≡◌, IfOk, OnErr};
 ghost use Rattle.file_writer.specs.Stripes.{HasStripe};
 
 use footer_writer::{StreamPart, write_stripe_footer};
 use orc_tail::{Encoding, Stripe};
 use std::alloc::{AllocError, Global};
 
-/// A file's bytes so far, and the stripe that lies at their end.
-#[derive(Debug, Drop)]
-pub struct WithStripe {
-    /// The bytes.
-    pub bytes: Vec<u8>,
-    /// Where the stripe lies in them.
-    pub stripe: Stripe,
-}
-
-/// The file's bytes, and behind them a stripe of that many rows: the bytes of its streams, joined in order, and its footer.
+/// Adds a stripe of that many rows behind the file's bytes: the bytes of its streams, joined in order, and its footer. Answers where
+/// it lies.
 ///
-/// The stripe has no index. A refused call, for want of memory alone, gives the file's bytes up.
+/// The stripe has no index. It is made whole before it is added, so a refused call, for want of memory alone, leaves the file's bytes
+/// as they were.
 ///
 /// Source: Apache ORC specification v1, "Stripes".
 pub fn push_stripe(
     alloc: Global,
-    file: Vec<u8>,
-    body: &[u8],
+    file: &mut Vec<u8>,
+    body: Vec<u8>,
     streams: &[StreamPart],
     encodings: &[Encoding],
     rows: u64,
-) -> Result<WithStripe, AllocError>
-    ensures { IfOk result (λ made. HasStripe file.items made.bytes.items made.stripe body.now streams.now encodings.now rows) }
+) -> Result<Stripe, AllocError>
+    ensures ok { IfOk result (λ stripe. HasStripe file.old.items file.new.items stripe body.items streams.now encodings.now rows) }
+    ensures err { OnErr result (file.new.items ≡ file.old.items) }
 {
     let footer = write_stripe_footer(alloc, streams, encodings)?;
     let stripe = Stripe {
@@ -39,8 +33,8 @@ pub fn push_stripe(
         footer_len: footer.len() as u64,
         rows,
     };
-    let mut bytes = file;
-    bytes.extend_from_slice(body)?;
-    bytes.extend_from_slice(&footer)?;
-    Ok(WithStripe { bytes, stripe })
+    let mut whole = body;
+    whole.extend_from_slice(&footer)?;
+    file.extend_from_slice(&whole)?;
+    Ok(stripe)
 }

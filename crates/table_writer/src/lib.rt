@@ -3,8 +3,7 @@
 
 mod columns;
 mod listing;
+mod opaque;
 mod stripe;
-mod table_column;
 
 pub use stripe::write_stripe;
-pub use table_column::TableColumn;

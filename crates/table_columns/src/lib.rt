@@ -1,0 +1,12 @@
+//! The columns of a table that is written: those whose rows are given, and those whose streams nobody reads.
+#![tactic(auto)]
+
+mod clearing;
+mod encodings;
+mod row_push;
+mod table_column;
+
+pub use clearing::clear;
+pub use encodings::encoding_number;
+pub use row_push::push_row;
+pub use table_column::{Content, OpaqueStream, TableColumn};
