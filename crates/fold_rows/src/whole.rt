@@ -52,6 +52,7 @@ fn count_whole(state: State, given: u64, columns: &[Column], rows: usize) -> Sta
     ensures state { result ≡ with_rows kind.Count state (rows_of rows columns.now) }
     ensures bound { SumOfFew (given + rows) (sum_in result) }
 {
+    // the contract alone speaks of these two
     let _given = given;
     let _columns = columns;
     count_with(state, rows as u64)
@@ -72,6 +73,7 @@ fn whole_total(
     ensures state { IfSome result (λ new. has.Sum new ≡ with_rows (kind.Sum place) state.now (rows_of rows columns.now)) }
     ensures bound { IfSome result (λ new. SumOfFew (given + rows) new.sum) }
 {
+    // the contract alone speaks of it
     let _rows = rows;
     match state {
         State::Sum(total) => with_all(*total, given, &columns[place as usize]),
