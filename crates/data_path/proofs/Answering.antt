@@ -2,15 +2,16 @@
 use Rattle.std.proofs.Common.{◌≡◌, inl, inr, true, false, Bool, ℕ, List, Option, Some, None, Ok, refl, sym, ◌∙◌, ap, subst, if◌then◌else◌, ◌≤◌, IfSome, arith}
 use Rattle.std.specs.List.{list_any}
 use Rattle.std.proofs.lemmas.Option.{same_Some}
+use Rattle.outside.specs.declared.file_ref.FileRange.{FileRange}
 use Rattle.outside.specs.Cause.{Rose}
 use Rattle.outside.specs.Files.{Files}
 use Rattle.outside.specs.Told.{Extended}
+use Rattle.ledgers.specs.declared.cache_totals.CacheTotals.{CacheTotals}
 use Rattle.fragment_plan.specs.declared.fragment.Fragment.{Fragment}
 use Rattle.fragment_plan.specs.Plan.{plan_of}
 use Rattle.fragment_outcome.specs.declared.outcome.Outcome.{Outcome}
 use Rattle.fragment_meaning.specs.PlanOutcomes.{PlanMeans}
 use Rattle.plan_run.specs.Laws.{QuietRunsMeanThePlan}
-use Rattle.plan_run.specs.Output.{results_text}
 use Rattle.generated_plan.specs.Text.{file_name, generated_plan}
 use Rattle.generated_plan.specs.Fragments.{plan_over}
 use Rattle.generated_plan.specs.Laws.{GeneratedPlansAreRead}
@@ -19,9 +20,10 @@ use Rattle.command_line.specs.Options.{AreOptionsOf}
 use Rattle.command_line.specs.declared.settings.Options.{Options}
 use Rattle.data_path.specs.declared.status.Status.{Status}
 use Rattle.data_path.specs.declared.status.Status.TheVariants.{Done, SomeFailed, Usage, BadPlan, WriteFault, PlanFault, NoMemory}
-use Rattle.data_path.specs.Headline.{Answers, Call, Completes, CompletesAlone, CompletesGenerated, IsComplete, IsUnread, Prints, Writes}
+use Rattle.data_path.specs.Headline.{Answers, Call, Completes, CompletesAlone, CompletesGenerated, IsComplete, IsUnread, Prints, PrintsIn, Writes}
 use Rattle.data_path.specs.Headline.Prints.{bad_plan, ran}
 use Rattle.data_path.specs.Headline.Writes.{usage, planned, generated as made}
+use Rattle.data_path.specs.RunText.{run_text}
 use Rattle.data_path.specs.Statuses.{is_failure, status_of}
 use Rattle.data_path.specs.Steps.{ChosenPlan, NotRead, Written}
 use Rattle.data_path.specs.Steps.ChosenPlan.{stored, generated}
@@ -78,11 +80,12 @@ answers_more V W S P Q before after NoMemory more other a = a
 
 -- all results of a plan were to be written
 abbrev pub AreWhole : Files → List Fragment → Status → List ℕ → Type 0
-AreWhole files plan status text = (outcomes : List Outcome) × PlanMeans files plan outcomes × (status ≡ status_of outcomes) × (text ≡ results_text plan outcomes)
+AreWhole files plan status text = (outcomes : List Outcome) × PlanMeans files plan outcomes × (status ≡ status_of outcomes)
+    × ((totals : CacheTotals) × (text ≡ run_text plan outcomes totals))
 
 whole_complete : (files : Files) (plan : List Fragment) (before after : Option (List ℕ)) (status : Status) (text : List ℕ) → AreWhole files plan status text
     → Extended before after text → IsComplete files plan before after status
-whole_complete files plan before after status text w e = inr (w.0, w.1, w.2, subst (λ (t : List ℕ). Extended before after t) w.3 e)
+whole_complete files plan before after status text w e = inr (w.0, w.1, w.2, (w.3.0, subst (λ (t : List ℕ). Extended before after t) w.3.1 e))
 
 answers_complete : (V : Status → List ℕ → Type 0) (S P : Type 0) (files : Files) (plan : List Fragment) (before after : Option (List ℕ)) (result : Status)
     → ((status : Status) (text : List ℕ) → V status text → AreWhole files plan status text) → ¬ S → ¬ P
@@ -96,18 +99,18 @@ answers_complete V S P files plan before after PlanFault all s p a = absurd (p a
 answers_complete V S P files plan before after NoMemory all s p a = inl (refl, a)
 
 module _ (quiet : QuietRunsMeanThePlan) where
-  prints_whole : (told : Option Files) (f g : ℕ) (U : Type 0) (bytes : List ℕ) (files : Files) (plan : List Fragment) → told ≡ Some files → plan_of bytes ≡ Ok plan → ¬ Rose f g
-      → (status : Status) (text : List ℕ) → Prints told f g U bytes status text → AreWhole files plan status text
-  prints_whole told f g U bytes files plan e is quiet_store status text (bad_plan fault untouched) = absurd cc
-  prints_whole told f g U bytes files plan e is quiet_store status text (ran {plan = other} {outcomes} read run) =
+  prints_whole : (told : Option Files) (f g : ℕ) (r r' : Option (List FileRange)) (U : Type 0) (bytes : List ℕ) (files : Files) (plan : List Fragment) → told ≡ Some files → plan_of bytes ≡ Ok plan → ¬ Rose f g
+      → (status : Status) (text : List ℕ) → Prints told f g r r' U bytes status text → AreWhole files plan status text
+  prints_whole told f g r r' U bytes files plan e is quiet_store status text (bad_plan fault untouched) = absurd cc
+  prints_whole told f g r r' U bytes files plan e is quiet_store status text (ran {plan = other} {outcomes} {totals} read run counted) =
       let same : other ≡ plan = cc in
       let means = quiet told f g other outcomes files run e quiet_store in
-      (outcomes, subst (λ (p : List Fragment). PlanMeans files p outcomes) same means, refl, ap (λ (p : List Fragment). results_text p outcomes) same)
+      (outcomes, subst (λ (p : List Fragment). PlanMeans files p outcomes) same means, refl, (totals, ap (λ (p : List Fragment). run_text p outcomes totals) same))
 
-  pub completes_alone : (told : Option Files) (f g : ℕ) (U : Type 0) (S : Type 0) (bytes : List ℕ) (before after : Option (List ℕ)) (result : Status)
-      → Answers (Prints told f g U bytes) S ⊥ before after result → CompletesAlone told (Rose f g) S bytes before after result
-  completes_alone told f g U S bytes before after result a files plan e is quiet_store none =
-      answers_complete (Prints told f g U bytes) S ⊥ files plan before after result (prints_whole told f g U bytes files plan e is quiet_store) none (λ x. x) a
+  pub completes_alone : (told : Option Files) (f g : ℕ) (r r' : Option (List FileRange)) (U : Type 0) (S : Type 0) (bytes : List ℕ) (before after : Option (List ℕ)) (result : Status)
+      → Answers (Prints told f g r r' U bytes) S ⊥ before after result → CompletesAlone told (Rose f g) S bytes before after result
+  completes_alone told f g r r' U S bytes before after result a files plan e is quiet_store none =
+      answers_complete (Prints told f g r r' U bytes) S ⊥ files plan before after result (prints_whole told f g r r' U bytes files plan e is quiet_store) none (λ x. x) a
 
   -- words that ask for a generated file don't ask for a plan that is read
   one_or_other : (one : WordsMeanOneThing) (words : List (List ℕ)) (options others : Options) (number : ℕ) → AreGood words options
@@ -124,7 +127,7 @@ module _ (quiet : QuietRunsMeanThePlan) where
   writes_whole one call U V files options all plan good left is told quiet_store status text (usage bad u v) =
       absurd ((one call.words options good.options_are).1 bad)
   writes_whole one call U V files options all plan good left is told quiet_store status text (planned {bytes} others took prints) =
-      prints_whole call.told call.store_faults call.store_faults' V bytes files plan told (sym (took.same all left) ∙ is) quiet_store status text prints
+      prints_whole call.told call.store_faults call.store_faults' call.store_reads call.store_reads' V bytes files plan told (sym (took.same all left) ∙ is) quiet_store status text prints
   writes_whole one call U V files options all plan good left is told quiet_store status text (made {options = others} {number} asked u prints) =
       absurd (one_or_other one call.words options others number good asked)
 
@@ -157,7 +160,7 @@ module _ (quiet : QuietRunsMeanThePlan) where
       let other_is : number ≡ other = same_Some number other (sym asked.generated ∙ number_is) in
       let bytes_are : generated_plan number options.rows ≡ generated_plan other others.rows =
       ap (λ (n : ℕ). generated_plan n options.rows) other_is ∙ ap (λ (o : Options). generated_plan other o.rows) (sym same) in
-      prints_whole call.told call.store_faults call.store_faults' V (generated_plan other others.rows) files (plan_over (file_name number options.rows) number) told
+      prints_whole call.told call.store_faults call.store_faults' call.store_reads call.store_reads' V (generated_plan other others.rows) files (plan_over (file_name number options.rows) number) told
       (subst (λ (bytes : List ℕ). plan_of bytes ≡ Ok (plan_over (file_name number options.rows) number)) bytes_are (generated_is read call.words options number asked))
       quiet_store status text prints
 
@@ -171,7 +174,7 @@ module _ (quiet : QuietRunsMeanThePlan) where
 -- what a chosen plan's bytes print is what there is to write
 pub chosen_writes : (call : Call) (U V : Type 0) (options : Options) (bytes : List ℕ) → AreOptionsOf call.words options
     → ChosenPlan options call.left call.left' U bytes → (status : Status) (text : List ℕ)
-    → Prints call.told call.store_faults call.store_faults' V bytes status text → Writes call U V status text
+    → PrintsIn call V bytes status text → Writes call U V status text
 chosen_writes call U V options bytes are (stored none took) status text prints = planned (record { options_are = are; stored = none }) took prints
 chosen_writes call U V options bytes are (generated some same) status text prints = made (record { options_are = are; generated = some }) same prints
 

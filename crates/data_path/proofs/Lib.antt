@@ -3,3 +3,4 @@ pub mod NameLists
 pub mod PlanBytes
 pub mod ScanWords
 pub mod TookPlan
+pub mod TwoTexts

@@ -1,8 +1,10 @@
 -- What a call of the program answers and writes. Source: this project's own.
 use Rattle.std.specs.Prelude.{◌≡◌, ◌⊎◌, ◌≤◌, ℕ, List, take, length, Option, Some, Ok, Err}
+use Rattle.outside.specs.declared.file_ref.FileRange.{FileRange}
 use Rattle.outside.specs.Cause.{Rose}
 use Rattle.outside.specs.Files.{Files}
 use Rattle.outside.specs.Told.{Extended}
+use Rattle.ledgers.specs.declared.cache_totals.CacheTotals.{CacheTotals}
 use Rattle.plan_words.specs.declared.fault.PlanKind.{PlanKind}
 use Rattle.fragment_plan.specs.declared.fragment.Fragment.{Fragment}
 use Rattle.fragment_plan.specs.Plan.{plan_of}
@@ -11,25 +13,28 @@ use Rattle.fragment_meaning.specs.PlanOutcomes.{PlanMeans}
 use Rattle.plan_run.specs.Run.{HasRun}
 use Rattle.generated_plan.specs.Text.{file_name, generated_plan}
 use Rattle.generated_plan.specs.Fragments.{plan_over}
-use Rattle.plan_run.specs.Output.{results_text}
 use Rattle.command_line.specs.Pages.{usage_text}
 use Rattle.command_line.specs.declared.settings.Options.{Options}
 use Rattle.data_path.specs.declared.status.Status.{Status}
 use Rattle.data_path.specs.declared.status.Status.TheVariants.{Done, SomeFailed, Usage, BadPlan, WriteFault, PlanFault, NoMemory}
 use Rattle.data_path.specs.FaultLine.{fault_text}
 use Rattle.data_path.specs.PlanBytes.{TookPlan}
+use Rattle.data_path.specs.RunText.{AreTotals, run_text}
 use Rattle.data_path.specs.Statuses.{status_of}
 use Rattle.data_path.specs.Usage.{AreBad, AreGenerated, AreGood}
 
 -- ---- from the plan's bytes on
 
 -- What a run of a plan's bytes has to write, and its status where the sink takes it: the line of the plan's first fault, and then the
--- store is as it was; or the results of its fragments, in plan order.
-pub data Prints (told : Option Files) (faults faults' : ℕ) (untouched : Type 0) (bytes : List ℕ) : Status → List ℕ → Type 0 where
+-- store is as it was; or the results of its fragments, in plan order, and then the line of the cache, whose counts are those of the
+-- store's reads.
+pub data Prints (told : Option Files) (faults faults' : ℕ) (reads reads' : Option (List FileRange)) (untouched : Type 0) (bytes : List ℕ) :
+    Status → List ℕ → Type 0 where
   bad_plan : {line : ℕ} {kind : PlanKind} → plan_of bytes ≡ Err (line, kind) → untouched
-      → Prints told faults faults' untouched bytes BadPlan (fault_text line kind)
-  ran : {plan : List Fragment} {outcomes : List Outcome} → plan_of bytes ≡ Ok plan → HasRun told faults faults' plan outcomes
-      → Prints told faults faults' untouched bytes (status_of outcomes) (results_text plan outcomes)
+      → Prints told faults faults' reads reads' untouched bytes BadPlan (fault_text line kind)
+  ran : {plan : List Fragment} {outcomes : List Outcome} {totals : CacheTotals} → plan_of bytes ≡ Ok plan
+      → HasRun told faults faults' plan outcomes → AreTotals reads reads' totals
+      → Prints told faults faults' reads reads' untouched bytes (status_of outcomes) (run_text plan outcomes totals)
 
 -- ---- answers, by what there is to write
 
@@ -56,7 +61,7 @@ Answers Writes SinkRose PlanUnread before after NoMemory = after ≡ before
 -- ---- the whole call
 
 -- What a call is given, and what it leaves: the files that are told, the words, what is left of the plan's source before
--- and after, and the counts of faults of source and store before and after.
+-- and after, the counts of faults of source and store before and after, and the store's reads before and after.
 pub record Call : Type 0 where
   pub told : Option Files
   pub words : List (List ℕ)
@@ -66,6 +71,13 @@ pub record Call : Type 0 where
   pub plan_faults' : ℕ
   pub store_faults : ℕ
   pub store_faults' : ℕ
+  pub store_reads : Option (List FileRange)
+  pub store_reads' : Option (List FileRange)
+
+-- what a run of these bytes in a call has to write
+abbrev pub PrintsIn : Call → Type 0 → List ℕ → Status → List ℕ → Type 0
+PrintsIn call store_untouched bytes =
+    Prints call.told call.store_faults call.store_faults' call.store_reads call.store_reads' store_untouched bytes
 
 -- What a call has to write, and its status where the sink takes it: the usage line at words that are no command line, and then source
 -- and store are as they were; or what the plan's bytes print, which are read from the source, or are those of a generated file, and
@@ -73,10 +85,10 @@ pub record Call : Type 0 where
 pub data Writes (call : Call) (source_untouched store_untouched : Type 0) : Status → List ℕ → Type 0 where
   usage : AreBad call.words → source_untouched → store_untouched → Writes call source_untouched store_untouched Usage usage_text
   planned : {options : Options} {bytes : List ℕ} {status : Status} {text : List ℕ} → AreGood call.words options
-      → TookPlan call.left call.left' bytes → Prints call.told call.store_faults call.store_faults' store_untouched bytes status text
+      → TookPlan call.left call.left' bytes → PrintsIn call store_untouched bytes status text
       → Writes call source_untouched store_untouched status text
   generated : {options : Options} {number : ℕ} {status : Status} {text : List ℕ} → AreGenerated call.words options number → source_untouched
-      → Prints call.told call.store_faults call.store_faults' store_untouched (generated_plan number options.rows) status text
+      → PrintsIn call store_untouched (generated_plan number options.rows) status text
       → Writes call source_untouched store_untouched status text
 
 -- the words are good, the plan's source failed, and the store is as it was
@@ -88,11 +100,11 @@ pub record IsUnread (call : Call) (store_untouched : Type 0) : Type 0 where
 
 -- ---- completeness
 
--- memory was refused and nothing was written, or all results were, of each fragment what it means
+-- memory was refused and nothing was written, or all results were, of each fragment what it means, and behind them the cache's line
 abbrev pub IsComplete : Files → List Fragment → Option (List ℕ) → Option (List ℕ) → Status → Type 0
 IsComplete files plan before after status = ((status ≡ NoMemory) × (after ≡ before))
     ⊎ ((outcomes : List Outcome) × PlanMeans files plan outcomes × (status ≡ status_of outcomes)
-    × Extended before after (results_text plan outcomes))
+    × ((totals : CacheTotals) × Extended before after (run_text plan outcomes totals)))
 
 -- where files are told and neither store nor sink fails, a plan's results are written
 abbrev pub CompletesAlone : Option Files → Type 0 → Type 0 → List ℕ → Option (List ℕ) → Option (List ℕ) → Status → Type 0

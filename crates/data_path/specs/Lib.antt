@@ -4,6 +4,7 @@ pub mod Geometries
 pub mod Headline
 pub mod OwnLine
 pub mod PlanBytes
+pub mod RunText
 pub mod Scanners
 pub mod Statuses
 pub mod StatusCode

@@ -1,11 +1,14 @@
 -- What a scanner through a cache keeps over its scans. Source: this project's own.
-use Rattle.std.specs.Prelude.{◌≡◌, refl}
+use Rattle.std.specs.Prelude.{◌≡◌, refl, List, Option}
 use Rattle.std.proofs.Common.{◌∙◌}
+use Rattle.outside.specs.declared.file_ref.FileRange.{FileRange}
 use Rattle.outside.specs.declared.store.Store.{Ghosts}
+use Rattle.scan_inline.specs.Counts.{AreCounted}
+use Rattle.scan_inline.specs.CountLaws.{counted_none, counted_then}
 use Rattle.data_path.specs.declared.cache_scanner.CacheScanner.{CacheScanner}
 
-module _ {W S : Type 0} {G : Ghosts S W} where
-  -- its cache and its references are the same
+module _ {W S : Type 0} {G : Ghosts S W} (reads : S → Option (List FileRange)) where
+  -- its cache and its references are the same, and what it counted is counted of the store's reads
   pub record IsSameScanner (first last : CacheScanner W S G) : Type 0 where
     pub cache : last.cache.now ≡ first.cache.now
     pub seat : last.seat.ghost_name ≡ first.seat.ghost_name
@@ -13,11 +16,22 @@ module _ {W S : Type 0} {G : Ghosts S W} where
     pub store : last.store.ghost_name ≡ first.store.ghost_name
     pub scratch : last.scratch.ghost_name ≡ first.scratch.ghost_name
     pub totals : last.totals.ghost_name ≡ first.totals.ghost_name
+    pub counted : AreCounted (reads first.store.now) (reads last.store.now) first.totals.now last.totals.now
 
   pub same_scanner : (r : CacheScanner W S G) → IsSameScanner r r
-  same_scanner r = record { cache = refl; seat = refl; evictor = refl; store = refl; scratch = refl; totals = refl }
+  same_scanner r =
+      record {
+        cache = refl;
+        seat = refl;
+        evictor = refl;
+        store = refl;
+        scratch = refl;
+        totals = refl;
+        counted = counted_none (reads r.store.now) r.totals.now r.fit;
+      }
 
-  pub same_on : (first between last : CacheScanner W S G) → IsSameScanner first between → IsSameScanner between last → IsSameScanner first last
+  pub same_on : (first between last : CacheScanner W S G) → IsSameScanner first between → IsSameScanner between last
+      → IsSameScanner first last
   same_on first between last p q =
       record {
         cache = q.cache ∙ p.cache;
@@ -26,4 +40,6 @@ module _ {W S : Type 0} {G : Ghosts S W} where
         store = q.store ∙ p.store;
         scratch = q.scratch ∙ p.scratch;
         totals = q.totals ∙ p.totals;
+        counted = counted_then (reads first.store.now) (reads between.store.now) (reads last.store.now) first.totals.now between.totals.now
+            last.totals.now p.counted q.counted;
       }

@@ -6,6 +6,7 @@ ghost use Rattle.buffer_pool.specs.Pools.{IsSeatOf, sizes_of, view};
 ghost use Rattle.range_cache.specs.Caches.{pool_of};
 ghost use Rattle.evicting_fetch.specs.Evictors.{IsEvictorOf};
 ghost use Rattle.io_elevator.specs.Scratch.{IsFreshFor};
+ghost use Rattle.scan_inline.specs.Counts.{HaveFit};
 
 use evicting_fetch::Evictor;
 use fragment_outcome::Outcome;
@@ -15,7 +16,7 @@ use ledgers::CacheTotals;
 use outside::{NoMemory, Store, World};
 use plan_run::Scanner;
 use range_cache::{Cache, PoolSeat};
-use scan_inline::scan_with;
+use scan_inline::{counts_fit, scan_with};
 use std::alloc::Global;
 
 /// Scans the files of a store, which it borrows, and reads them through a cache, by a seat of it that has no pin between scans, and in
@@ -38,6 +39,7 @@ pub struct CacheScanner<'a, W: World, S: Store<W>> {
     pub ghost no_pin: { (header : ℕ) → (mark_at (view seat.now) header).hold ≡ Free },
     pub ghost evicts: { IsEvictorOf (pool_of cache.now) evictor.now },
     pub ghost fresh: { IsFreshFor (sizes_of (pool_of cache.now)) scratch.now },
+    pub ghost fit: { HaveFit totals.now },
 }
 
 impl<'a, W: World, S: Store<W>> CacheScanner<'a, W, S> {
@@ -70,6 +72,7 @@ impl<'a, W: World, S: Store<W>> CacheScanner<'a, W, S> {
         ensures totals_name { result.totals.ghost_name ≡ totals.entry.ghost_name }
         ensures totals { result.totals.now ≡ totals.old }
     {
+        counts_fit(totals);
         CacheScanner {
             cache,
             seat,
@@ -86,11 +89,11 @@ impl<'a, W: World, S: Store<W>> Scanner<W> for CacheScanner<'a, W, S> {
 
     ghost fault_count = { λ r. S.fault_count r.store.now };
 
-    ghost same = { λ first last. IsSameScanner first last };
+    ghost same = { λ first last. IsSameScanner S.reads first last };
 
-    ghost same_as_itself = { λ r. same_scanner r };
+    ghost same_as_itself = { λ r. same_scanner S.reads r };
 
-    ghost same_on = { λ first between last p q. same_on first between last p q };
+    ghost same_on = { λ first between last p q. same_on S.reads first between last p q };
 
     fn scan(&mut self, alloc: Global, plan: &Plan, fragment: u32) -> Result<Outcome, NoMemory> {
         scan_with(

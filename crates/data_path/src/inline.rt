@@ -12,11 +12,13 @@ ghost use Rattle.command_line.specs.Options.{AreInRange};
 ghost use Rattle.plan_run.specs.Run.{HasRun};
 ghost use Rattle.data_path.specs.Geometries.{geometry_of};
 ghost use Rattle.data_path.specs.Headline.{Answers, CompletesAlone, Prints};
+ghost use Rattle.data_path.specs.RunText.{AreTotals};
+ghost use Rattle.scan_inline.specs.Counts.{AreCounted};
 
 use crate::cache_scanner::CacheScanner;
 use crate::faulty_plan::fault_line;
 use crate::status::Status;
-use crate::writing::{results_written, written};
+use crate::writing::{run_written, written};
 use command_line::Options;
 use evicting_fetch::Evictor;
 use fragment_plan::{Plan, PlanError, read_plan};
@@ -61,6 +63,7 @@ fn run_through<W: World, S: Store<W>>(
     evictor: &mut Evictor,
     last: &mut S,
     scratch: &mut Scratch<W>,
+    totals: &mut CacheTotals,
 ) -> Result<Outcomes, NoMemory>
     requires seat { IsSeatOf (pool_of cache.now) seat.old }
     requires no_pin { (header : ℕ) → (mark_at (view seat.old) header).hold ≡ Free }
@@ -69,22 +72,23 @@ fn run_through<W: World, S: Store<W>>(
     ensures seat { IsSeatOf (pool_of cache.now) seat.new }
     ensures fresh { IsFreshFor (sizes_of (pool_of cache.now)) scratch.new }
     ensures run { IfOk result (HasRun W.files (S.fault_count last.old) (S.fault_count last.new) plan.now) }
+    ensures counted { AreCounted (S.reads last.old) (S.reads last.new) totals.old totals.new }
 {
-    let mut totals = CacheTotals::ZERO;
-    let mut scanner = CacheScanner::new(cache, seat, evictor, last, scratch, &mut totals);
+    let mut scanner = CacheScanner::new(cache, seat, evictor, last, scratch, totals);
     run_plan(alloc, plan, &mut scanner)
 }
 
 /// Runs a plan over a store that is read through a cache, which it makes before the plan runs and lets go, and with it what decides its
-/// evictions, and scratch for its scans.
+/// evictions, and scratch for its scans. It answers the outcomes, and how the ranges that were read were got.
 fn run_over<W: World, S: Store<W>>(
     alloc: Global,
     options: &Options,
     plan: &Plan,
     last: &mut S,
-) -> Result<Outcomes, NoMemory>
+) -> Result<(Outcomes, CacheTotals), NoMemory>
     requires in_range { AreInRange options.now }
-    ensures { IfOk result (HasRun W.files (S.fault_count last.old) (S.fault_count last.new) plan.now) }
+    ensures run { IfOk result (λ r. HasRun W.files (S.fault_count last.old) (S.fault_count last.new) plan.now r.0) }
+    ensures counted { IfOk result (λ r. AreTotals (S.reads last.old) (S.reads last.new) r.1) }
 {
     let (cache, mut seat) = match cache_for(alloc, options) {
         Ok(made) => made,
@@ -98,6 +102,7 @@ fn run_over<W: World, S: Store<W>>(
         Ok(scratch) => scratch,
         Err(NoMemory) => return Err(NoMemory),
     };
+    let mut totals = CacheTotals::ZERO;
     let outcomes = run_through(
         alloc,
         plan,
@@ -106,9 +111,13 @@ fn run_over<W: World, S: Store<W>>(
         &mut evictor,
         last,
         &mut scratch,
+        &mut totals,
     );
     scratch.free(&cache, &mut seat);
-    outcomes
+    match outcomes {
+        Ok(outcomes) => Ok((outcomes, totals)),
+        Err(NoMemory) => Err(NoMemory),
+    }
 }
 
 /// Runs a plan's bytes over the files of a world, and writes each fragment's result, by the caller alone.
@@ -117,8 +126,9 @@ fn run_over<W: World, S: Store<W>>(
 /// before the plan runs, and lets go; those of threads aren't used yet.
 ///
 /// Bytes that are no plan write the line of their first fault: `BadPlan`, and the store is as it was. Else the results of all
-/// fragments are written, in plan order. Where the world tells its files, what is written is what the fragments mean, but for
-/// at most as many scans with a read fault as the faults of `last` rose by. `Done` where no fragment failed, else `SomeFailed`.
+/// fragments are written, in plan order, and then the line of the cache. Where the store tells its reads, that line's fills and bypasses
+/// are as many as it read, unless one stands at its last value. Where the world tells its files, what is written is what the fragments
+/// mean, but for at most as many scans with a read fault as the faults of `last` rose by. `Done` where no fragment failed, else `SomeFailed`.
 /// `WriteFault` only where the sink's faults rose, and a front of the text was written. After `NoMemory` nothing was written.
 /// It never answers `Usage` or `PlanFault`.
 pub fn alone<W: World, S: Store<W>, K: Sink>(
@@ -130,7 +140,8 @@ pub fn alone<W: World, S: Store<W>, K: Sink>(
 ) -> Status
     requires in_range { AreInRange options.now }
     ensures answers { Answers
-        (Prints W.files (S.fault_count last.old) (S.fault_count last.new) (last.new ≡ last.old) plan.now)
+        (Prints W.files (S.fault_count last.old) (S.fault_count last.new) (S.reads last.old) (S.reads last.new)
+        (last.new ≡ last.old) plan.now)
         (Rose (K.fault_count out.old) (K.fault_count out.new)) ⊥ (K.content out.old) (K.content out.new) result }
     ensures complete { CompletesAlone W.files (Rose (S.fault_count last.old) (S.fault_count last.new))
         (Rose (K.fault_count out.old) (K.fault_count out.new)) plan.now (K.content out.old) (K.content out.new) result }
@@ -148,7 +159,7 @@ pub fn alone<W: World, S: Store<W>, K: Sink>(
         Err(PlanError::NoMemory) => return Status::NoMemory,
     };
     match run_over(alloc, options, &plan, last) {
-        Ok(outcomes) => results_written(&plan, outcomes.as_slice(), out),
+        Ok((outcomes, totals)) => run_written(&plan, outcomes.as_slice(), &totals, out),
         Err(_) => Status::NoMemory,
     }
 }

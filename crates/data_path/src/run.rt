@@ -68,6 +68,8 @@ pub fn llapd<W: World, P: Source, S: Store<W> + Send + Drop, K: Sink, G: Gate + 
           plan_faults' = P.fault_count plan.new;
           store_faults = S.fault_count last.old;
           store_faults' = S.fault_count last.new;
+          store_reads = S.reads last.old;
+          store_reads' = S.reads last.new;
         })
         (plan.new ≡ plan.old) (last.new ≡ last.old))
         (Rose (K.fault_count out.old) (K.fault_count out.new))
@@ -81,6 +83,8 @@ pub fn llapd<W: World, P: Source, S: Store<W> + Send + Drop, K: Sink, G: Gate + 
           plan_faults' = P.fault_count plan.new;
           store_faults = S.fault_count last.old;
           store_faults' = S.fault_count last.new;
+          store_reads = S.reads last.old;
+          store_reads' = S.reads last.new;
         })
         (last.new ≡ last.old))
         (K.content out.old) (K.content out.new) result }
@@ -94,6 +98,8 @@ pub fn llapd<W: World, P: Source, S: Store<W> + Send + Drop, K: Sink, G: Gate + 
           plan_faults' = P.fault_count plan.new;
           store_faults = S.fault_count last.old;
           store_faults' = S.fault_count last.new;
+          store_reads = S.reads last.old;
+          store_reads' = S.reads last.new;
         })
         (Rose (K.fault_count out.old) (K.fault_count out.new)) (K.content out.old) (K.content out.new) result }
     ensures complete_generated { CompletesGenerated
@@ -106,6 +112,8 @@ pub fn llapd<W: World, P: Source, S: Store<W> + Send + Drop, K: Sink, G: Gate + 
           plan_faults' = P.fault_count plan.new;
           store_faults = S.fault_count last.old;
           store_faults' = S.fault_count last.new;
+          store_reads = S.reads last.old;
+          store_reads' = S.reads last.new;
         })
         (Rose (K.fault_count out.old) (K.fault_count out.new)) (K.content out.old) (K.content out.new) result }
 {

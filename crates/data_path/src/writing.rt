@@ -1,13 +1,14 @@
 //! What is written once it is whole.
 ghost use Rattle.std.specs.Prelude.{◌≡◌, ◌≤◌, length};
 ghost use Rattle.std.specs.List.{list_any};
-ghost use Rattle.plan_run.specs.Output.{results_text};
+ghost use Rattle.data_path.specs.RunText.{run_text};
 ghost use Rattle.data_path.specs.Statuses.{is_failure as is_failed, status_of};
 ghost use Rattle.data_path.specs.Steps.{Written};
 
 use crate::status::Status;
 use fragment_outcome::Outcome;
 use fragment_plan::Plan;
+use ledgers::{CacheTotals, write_cache};
 use outside::Sink;
 use plan_run::write_results;
 
@@ -50,14 +51,22 @@ fn status_after(outcomes: &[Outcome]) -> Status
     }
 }
 
-/// Writes the results of a plan's fragments, and answers their status, or that a write failed.
-pub(crate) fn results_written<K: Sink>(plan: &Plan, outcomes: &[Outcome], out: &mut K) -> Status
+/// Writes the results of a plan's fragments and then the line of the cache, and answers the results' status, or that a write failed.
+pub(crate) fn run_written<K: Sink>(
+    plan: &Plan,
+    outcomes: &[Outcome],
+    totals: &CacheTotals,
+    out: &mut K,
+) -> Status
     requires { length outcomes.now ≤ 4294967295 }
     ensures { Written (K.content out.old) (K.content out.new) (K.fault_count out.old) (K.fault_count out.new)
-        (results_text plan.now outcomes.now) (status_of outcomes.now) result }
+        (run_text plan.now outcomes.now totals.now) (status_of outcomes.now) result }
 {
     match write_results(plan, outcomes, out) {
-        Ok(()) => status_after(outcomes),
+        Ok(()) => match write_cache(totals, out) {
+            Ok(()) => status_after(outcomes),
+            Err(_) => Status::WriteFault,
+        },
         Err(_) => Status::WriteFault,
     }
 }

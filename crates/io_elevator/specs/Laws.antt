@@ -52,8 +52,8 @@ module _ (files : Option Files) {W S : Type 0} (reads : S → Option (List FileR
             between = g.between;
             id = g.id;
             fetched = subst (λ (c : Cache W). Fetches files (pool_of c) m.desk.seat.now g.between key x.0) e g.fetched;
-            victims = subst (λ (c : Cache W). TakesVictims files (pool_of c) m.desk.seat.now g.between key m.desk.evictor.now k.desk.evictor.now
-                (x.0).how) e g.victims;
+            victims = subst (λ (c : Cache W). TakesVictims files (pool_of c) m.desk.seat.now g.between key m.desk.evictor.now
+                k.desk.evictor.now (x.0).how) e g.victims;
             kept = g.kept;
             unmoved = g.unmoved;
             out = subst (λ (c : Cache W). IsReadOut files (pool_of c) g.between k.desk.seat.now x.0 (x.0).how) e g.out;

@@ -8,4 +8,4 @@ mod totals_text;
 
 pub use board_totals::BoardTotals;
 pub use cache_totals::{CacheTotals, How2};
-pub use totals_text::write_totals;
+pub use totals_text::{write_cache, write_totals};

@@ -46,6 +46,22 @@ fn put_board(line: &mut Line, board: &BoardTotals)
     line.put(b"\n");
 }
 
+/// Writes the line of a run's cache alone, in one write. It takes no memory.
+///
+/// `Failed` comes only where the sink's faults rose, and a front of the line was written.
+///
+/// Source: this project's own.
+pub fn write_cache<K: Sink>(cache: &CacheTotals, out: &mut K) -> Result<(), Failed>
+    ensures written { OnOk result (Extended (K.content out.old) (K.content out.new) (cache_text cache.now)) }
+    ensures front { OnErr result ((n : ℕ) × (n ≤ length (cache_text cache.now))
+        × Extended (K.content out.old) (K.content out.new) (take n (cache_text cache.now))) }
+    ensures cause { HasCause (K.fault_count out.old) (K.fault_count out.new) result }
+{
+    let mut line = Line::new();
+    put_cache(&mut line, cache);
+    out.write(&line.bytes[..line.len])
+}
+
 /// Writes the two lines of a run's counts, that of the cache and that of the board, in one write. It takes no memory.
 ///
 /// `Failed` comes only where the sink's faults rose, and a front of the lines was written.

@@ -5,4 +5,4 @@ mod inline;
 mod through;
 
 pub use inline::{scan_inline, scan_with};
-pub use through::scan_through;
+pub use through::{counts_fit, scan_through};

@@ -99,8 +99,8 @@ fn count_fits(count: u64)
     ensures { count ≤ last }
 {}
 
-/// So are these.
-pub(crate) fn counts_fit(totals: &CacheTotals)
+/// The counts of how ranges were got are numbers of 64 bits each: a law, by a function that does nothing.
+pub fn counts_fit(totals: &CacheTotals)
     ensures { HaveFit totals.now }
 {
     count_fits(totals.hit);

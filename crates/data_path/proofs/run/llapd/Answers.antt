@@ -21,6 +21,8 @@ returns-in-Err-Usage-clause-answers g c =
       plan_faults' = g.P.Source.fault_count source;
       store_faults = g.S.Store.fault_count last;
       store_faults' = g.S.Store.fault_count last;
+      store_reads = g.S.Store.reads last;
+      store_reads' = g.S.Store.reads last;
     } in
     written_answers (Writes call (source ≡ source) (last ≡ last)) (IsUnread call (last ≡ last)) (g.K.Sink.content c.args.out.now) (g.K.Sink.content c.written.new.out)
     (g.K.Sink.fault_count c.args.out.now) (g.K.Sink.fault_count c.written.new.out) usage_text Usage c.written.result tt
@@ -41,10 +43,12 @@ returns-in-Ok-plan_for-clause-answers g c =
       plan_faults' = g.P.Source.fault_count source';
       store_faults = g.S.Store.fault_count last;
       store_faults' = g.S.Store.fault_count last';
+      store_reads = g.S.Store.reads last;
+      store_reads' = g.S.Store.reads last';
     } in
     let chosen : ChosenPlan c.in-Ok.options call.left call.left' (source' ≡ source) c.as_slice.result.now =
     subst (λ (bytes : List ℕ). ChosenPlan c.in-Ok.options call.left call.left' (source' ≡ source) bytes) (sym c.as_slice.ensures) c.in-Ok-plan_for.ensures.ok in
-    answers_more (Prints g.W.World.files (g.S.Store.fault_count last) (g.S.Store.fault_count last') (last' ≡ last) c.as_slice.result.now)
+    answers_more (Prints g.W.World.files (g.S.Store.fault_count last) (g.S.Store.fault_count last') (g.S.Store.reads last) (g.S.Store.reads last') (last' ≡ last) c.as_slice.result.now)
     (Writes call (source' ≡ source) (last' ≡ last)) (Rose (g.K.Sink.fault_count c.args.out.now) (g.K.Sink.fault_count c.alone.new.out)) ⊥ (IsUnread call (last' ≡ last))
     (g.K.Sink.content c.args.out.now) (g.K.Sink.content c.alone.new.out) c.alone.result
     (chosen_writes call (source' ≡ source) (last' ≡ last) c.in-Ok.options c.as_slice.result.now c.in-Ok.ensures.ok chosen) (λ x. absurd x) c.alone.ensures.answers
@@ -64,6 +68,8 @@ returns-in-Ok-plan_for-clause-complete g c =
       plan_faults' = g.P.Source.fault_count source';
       store_faults = g.S.Store.fault_count last;
       store_faults' = g.S.Store.fault_count last';
+      store_reads = g.S.Store.reads last;
+      store_reads' = g.S.Store.reads last';
     }) (source' ≡ source) (last' ≡ last) (Rose (g.K.Sink.fault_count c.args.out.now) (g.K.Sink.fault_count c.alone.new.out))
     (g.K.Sink.content c.args.out.now) (g.K.Sink.content c.alone.new.out) c.alone.result (returns-in-Ok-plan_for-clause-answers g c)
 
@@ -82,5 +88,7 @@ returns-in-Ok-plan_for-clause-complete_generated g c =
       plan_faults' = g.P.Source.fault_count source';
       store_faults = g.S.Store.fault_count last;
       store_faults' = g.S.Store.fault_count last';
+      store_reads = g.S.Store.reads last;
+      store_reads' = g.S.Store.reads last';
     }) (source' ≡ source) (last' ≡ last) (Rose (g.K.Sink.fault_count c.args.out.now) (g.K.Sink.fault_count c.alone.new.out))
     (g.K.Sink.content c.args.out.now) (g.K.Sink.content c.alone.new.out) c.alone.result (returns-in-Ok-plan_for-clause-answers g c)
