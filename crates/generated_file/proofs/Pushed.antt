@@ -9,7 +9,7 @@ use Rattle.orc_values.specs.declared.value.Value.TheVariants as value
 use Rattle.orc_columns.specs.declared.spelling.Spelling.{Spelling}
 use Rattle.orc_columns.specs.declared.spelling.Spelling.TheVariants.{Bits, Integers, Texts, Dictionary}
 use Rattle.orc_columns.specs.Spelling.{spelling_of}
-use Rattle.orc_columns.specs.declared.spelling.Version.TheVariants.{Two}
+use Rattle.orc_columns.specs.declared.spelling.Version.TheVariants.{One, Two}
 use Rattle.orc_rows.specs.Rows.{Rows}
 use Rattle.column_writer.specs.Buffered.{MayStand}
 use Rattle.table_columns.specs.Shapes.{Shape, written, opaque, RowFits}
@@ -24,7 +24,7 @@ use Rattle.generated_file.specs.Making.{HasFirst}
 -- ---- the columns, from each on
 
 abbrev pub from_qty : List ColumnSpec
-from_qty = spec_of (codes "qty") 3 DirectV2 ∷ []
+from_qty = spec_of (codes "qty") 3 Direct ∷ []
 
 abbrev pub from_note : List ColumnSpec
 from_note = spec_of (codes "note") 7 DirectV2 ∷ from_qty
@@ -37,7 +37,7 @@ from_even = spec_of (codes "even") 0 Direct ∷ from_city
 
 -- ---- a row fits
 
-qty-stands : (t : Bool) (z : _) → MayStand (Integers Two) (if t then value.Null else value.Int z)
+qty-stands : (t : Bool) (z : _) → MayStand (Integers One) (if t then value.Null else value.Int z)
 qty-stands true z = tt
 qty-stands false z = tt
 
@@ -62,7 +62,7 @@ row_fits s number index h =
     (λ s h. fits-next (spec_of (codes "even") 0 Direct) from_city s (even_in index) (city_in number index ∷ note_in index ∷ qty_in number index ∷ []) Bits refl tt h
     (λ s h. fits-next (spec_of (codes "city") 7 DictionaryV2) from_note s (city_in number index) (note_in index ∷ qty_in number index ∷ []) (Dictionary Two) refl tt h
     (λ s h. fits-next (spec_of (codes "note") 7 DirectV2) from_qty s (note_in index) (qty_in number index ∷ []) (Texts Two) refl tt h
-    (λ s h. fits-next (spec_of (codes "qty") 3 DirectV2) [] s (qty_in number index) [] (Integers Two) refl (qty-stands (index % 10 == 9) _) h fits-none))))
+    (λ s h. fits-next (spec_of (codes "qty") 3 Direct) [] s (qty_in number index) [] (Integers One) refl (qty-stands (index % 10 == 9) _) h fits-none))))
 
 -- ---- the columns
 
@@ -75,7 +75,7 @@ specs_are columns e = subst (λ (c : List ColumnSpec). All IsSpec c) (sym e)
     (All-cons IsSpec (spec_of (codes "even") 0 Direct) from_city (is-spec (spec_of (codes "even") 0 Direct) Bits refl)
     (All-cons IsSpec (spec_of (codes "city") 7 DictionaryV2) from_note (is-spec (spec_of (codes "city") 7 DictionaryV2) (Dictionary Two) refl)
     (All-cons IsSpec (spec_of (codes "note") 7 DirectV2) from_qty (is-spec (spec_of (codes "note") 7 DirectV2) (Texts Two) refl)
-    (All-cons IsSpec (spec_of (codes "qty") 3 DirectV2) [] (is-spec (spec_of (codes "qty") 3 DirectV2) (Integers Two) refl) (All-nil IsSpec))))))
+    (All-cons IsSpec (spec_of (codes "qty") 3 Direct) [] (is-spec (spec_of (codes "qty") 3 Direct) (Integers One) refl) (All-nil IsSpec))))))
 
 -- ---- the rows so far, and one more
 

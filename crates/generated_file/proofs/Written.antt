@@ -35,7 +35,7 @@ columns-are s h =
     (λ s h. top-next (spec_of (codes "even") 0 Direct) from_city s 2 _ h
     (λ s h. top-next (spec_of (codes "city") 7 DictionaryV2) from_note s 3 _ h
     (λ s h. top-next (spec_of (codes "note") 7 DirectV2) from_qty s 4 _ h
-    (λ s h. top-next (spec_of (codes "qty") 3 DirectV2) [] s 5 _ h (λ s h. top-none s 6 h)))))
+    (λ s h. top-next (spec_of (codes "qty") 3 Direct) [] s 5 _ h (λ s h. top-none s 6 h)))))
 
 pub made_is : (number rows : ℕ) (w : Writing) (file : List ℕ) → rows < 2 ^ 32 → HasFirst number rows w → IsMade w file → IsGenerated number rows file
 made_is number rows w file fits has made =

@@ -17,7 +17,7 @@ generated_columns = spec_of (codes "id") 4 DirectV2
     ∷ spec_of (codes "even") 0 Direct
     ∷ spec_of (codes "city") 7 DictionaryV2
     ∷ spec_of (codes "note") 7 DirectV2
-    ∷ spec_of (codes "qty") 3 DirectV2
+    ∷ spec_of (codes "qty") 3 Direct
     ∷ []
 
 -- the same as a reader of the file's tail sees them: each is the type of the next number

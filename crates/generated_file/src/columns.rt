@@ -26,7 +26,7 @@ pub(crate) fn columns(alloc: Global) -> Result<Vec<ColumnSpec>, NoMemory>
     add(alloc, &mut columns, "even", BOOLEAN, Spelling::Direct)?;
     add(alloc, &mut columns, "city", STRING, Spelling::DictionaryV2)?;
     add(alloc, &mut columns, "note", STRING, Spelling::DirectV2)?;
-    add(alloc, &mut columns, "qty", INT, Spelling::DirectV2)?;
+    add(alloc, &mut columns, "qty", INT, Spelling::Direct)?;
     Ok(columns)
 }
 
