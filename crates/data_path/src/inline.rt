@@ -128,7 +128,8 @@ fn run_over<W: World, S: Store<W>>(
 /// Bytes that are no plan write the line of their first fault: `BadPlan`, and the store is as it was. Else the results of all
 /// fragments are written, in plan order, and then the line of the cache. Where the store tells its reads, that line's fills and bypasses
 /// are as many as it read, unless one stands at its last value. Where the world tells its files, what is written is what the fragments
-/// mean, but for at most as many scans with a read fault as the faults of `last` rose by. `Done` where no fragment failed, else `SomeFailed`.
+/// mean, but for at most as many scans with a read fault as the faults of `last` rose by. `Done` where no fragment failed, else
+/// `SomeFailed`.
 /// `WriteFault` only where the sink's faults rose, and a front of the text was written. After `NoMemory` nothing was written.
 /// It never answers `Usage` or `PlanFault`.
 pub fn alone<W: World, S: Store<W>, K: Sink>(

@@ -17,7 +17,8 @@ pub(crate) fn insert_opaque(
     column: FileColumn,
     streams: Vec<OpaqueStream>,
 ) -> Result<(), NoMemory>
-    ensures ok { OnOk result (IsInserted before (record { column = column; content = Opaque streams }) columns.old.items columns.new.items) }
+    ensures ok { OnOk result (IsInserted before (record { column = column; content = Opaque streams })
+        columns.old.items columns.new.items) }
     ensures err { OnErr result (columns.new.items ≡ columns.old.items) }
 {
     let at = place_of(columns, before);
