@@ -15,7 +15,7 @@ use Rattle.buffer_pool.specs.Made.{AreMade}
 pub data OutSteps (header : ℕ) : List WordStep → Block → Type 0 where
   out : (word released given : ℕ) → IsIdleWord word → OutSteps header
       (Looked (State header) word ∷ EvictBegun header word ∷ HeaderReleased header
-          (block_in word) released ∷ Returned (block_in word) given ∷ [])
+      (block_in word) released ∷ Returned (block_in word) given ∷ [])
       (block_in word)
 
 -- a load showed another word, or the exchange found another than the load: it is refused by that word

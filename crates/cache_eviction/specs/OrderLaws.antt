@@ -162,7 +162,7 @@ module _ (files : Option Files) (g : Geometry) (id first count : ℕ) (p : Ranki
               ];
           kept = λ other away.
               one_kept now later header t.either other
-                  (λ e. away (one_among other header (tries c.ss) (tries (c.ss ++ t.ss)) all (inr (sym e))))
+              (λ e. away (one_among other header (tries c.ss) (tries (c.ss ++ t.ss)) all (inr (sym e))))
               ∙ c.kept other (λ front. away (one_among other header (tries c.ss) (tries (c.ss ++ t.ss)) all (inl front)));
           fewer = λ other r is.
               elim (cases_eq other header) [
@@ -271,8 +271,8 @@ module _ (ranks : RanksAreOrdered) (between : NoneBetween) (files : Option Files
                   elim (cases_Bool (is_above after q)) [
                     | inl up ↦
                         absurd (false≢true (sym
-                            (between first count now.entries after r least other q inside apart
-                            (still other q inside is up) low) ∙ up))
+                        (between first count now.entries after r least other q inside apart
+                        (still other q inside is up) low) ∙ up))
                     | inr before ↦ inl (c.upto.done other q inside is before)
                   ]
             ]);
@@ -368,8 +368,11 @@ module _ (files : Option Files) (g : Geometry) (id first count : ℕ) (p : Ranki
       → IsWalkMore files g id first count p start marks' later w (tries c.walk.ss) header
       → IsWalkOn files g id first count p start marks' later w
   on_more header marks' later w m =
-      record { walk = m.walk; ranked = λ other r inside is. one_among other header (tries c.walk.ss) (tries
-          m.walk.ss) m.more (inl (c.ranked other r inside is)) }
+      record {
+        walk = m.walk;
+        ranked = λ other r inside is. one_among other header (tries c.walk.ss) (tries
+            m.walk.ss) m.more (inl (c.ranked other r inside is));
+      }
 
   -- where each is marked, all were tried
   pub all_tried : ((i : ℕ) → i < count → slice_index_or marks i false ≡ true) → AllTried first count c.walk.ss
@@ -380,5 +383,20 @@ module _ (files : Option Files) (g : Geometry) (id first count : ℕ) (p : Ranki
       let e : first + (header - first) ≡ header = omega (arith, a) in
       subst Q e (c.walk.marked (header - first) (omega (arith, a, b)) (are (header - first) (omega (arith, a, b))))
 
-pub ruleset orders = (tries-append, forgotten-append, one_held, one_out, one_then, walk_more, walk_end, end_then,
-    victim_next, upto_more, all_ranked, walk_begins, other_next, on_more, all_tried)
+pub ruleset orders = (
+  tries-append,
+  forgotten-append,
+  one_held,
+  one_out,
+  one_then,
+  walk_more,
+  walk_end,
+  end_then,
+  victim_next,
+  upto_more,
+  all_ranked,
+  walk_begins,
+  other_next,
+  on_more,
+  all_tried,
+)

@@ -36,17 +36,21 @@ as_before v = record { claims = λ header. refl; grants = λ place. refl; holds 
 
 pub before_then : (start v w : View) → IsAsBefore start v → IsAsBefore v w → IsAsBefore start w
 before_then start v w p q =
-    record { claims = λ header. q.claims header ∙ p.claims header; grants =
-        λ place. q.grants place ∙ p.grants place; holds = λ header. q.holds header ∙ p.holds header }
+    record {
+      claims = λ header. q.claims header ∙ p.claims header;
+      grants =
+          λ place. q.grants place ∙ p.grants place;
+      holds = λ header. q.holds header ∙ p.holds header;
+    }
 
 -- a step that has to do with no header and no place leaves all that the seat has
 pub before_made : (files : Option Files) (g : Geometry) (id : ℕ) (s : WordStep) (start v w : View)
     → IsMade files g id s v w → header_of s ≡ None → place_of s ≡ None → IsAsBefore start v → IsAsBefore start w
 before_made files g id s start v w m no_header no_place c =
     let mark : (header : ℕ) → mark_at w header ≡ mark_at v header =
-        λ header. made_mark files g id s v w m header (λ e. none-some header (sym no_header ∙ e)) in
+    λ header. made_mark files g id s v w m header (λ e. none-some header (sym no_header ∙ e)) in
     let granted : (place : ℕ) → granted_at w place ≡ granted_at v place =
-        λ place. made_granted files g id s v w m place (λ e. none-some place (sym no_place ∙ e)) in
+    λ place. made_granted files g id s v w m place (λ e. none-some place (sym no_place ∙ e)) in
     record {
       claims = λ header. ap (λ (x : Mark). bare x.claim) (mark header) ∙ c.claims header;
       grants = λ place. granted place ∙ c.grants place;
@@ -73,8 +77,8 @@ nothing_again start v h c =
     record {
       marks = λ header.
           clear_of (mark_at v header) (c.holds header ∙ ap (λ (x : Mark). x.hold) (h.marks header))
-              (bare_free (mark_at v header).claim
-              (c.claims header ∙ ap (λ (x : Mark). bare x.claim) (h.marks header)));
+          (bare_free (mark_at v header).claim
+          (c.claims header ∙ ap (λ (x : Mark). bare x.claim) (h.marks header)));
       granted = λ place. c.grants place ∙ h.granted place;
     }
 
@@ -107,7 +111,7 @@ pub known_looked : (files : Option Files) (g : Geometry) (id : ℕ) (word : Word
 known_looked files g id word f v w ws e m =
     let s = Looked word f in
     known_left files g id s v w ws e m ∙ ap Some (ap (slice_set ws (index_of g word))
-        (sym (known_found files g id s v w ws e m)) ∙ set-get_or ws (index_of g word) 0)
+    (sym (known_found files g id s v w ws e m)) ∙ set-get_or ws (index_of g word) 0)
 
 -- ---- steps that are right
 
@@ -150,9 +154,13 @@ module _ (files : Option Files) (g : Geometry) (id : ℕ) (key : Key) (hit : Typ
       let P : View × List WordStep → Type 0 = λ z. AreRight files g id key hit start z.1 z.0 ts w in
       subst P (λ i. (e i, append-nil before i)) more
   right_then start before (s ∷ ss) ts v u w all more =
-      let P : List WordStep → Type 0 = λ l. AreRight files g id key hit start l u ts w in
-      (all.0, all.1, all.2, right_then start (before ++ s ∷ []) ss ts all.0 u w all.3
-          (subst P (sym (append_assoc before (s ∷ []) ss)) more))
+      let P : List WordStep → Type 0 = λ l. AreRight files g id key hit start l u ts w in (
+        all.0,
+        all.1,
+        all.2,
+        right_then start (before ++ s ∷ []) ss ts all.0 u w all.3
+            (subst P (sym (append_assoc before (s ∷ []) ss)) more),
+      )
 
   shown_later : (before ss : List WordStep) (header : ℕ) → IsShown key ss header → IsShown key (before ++ ss) header
   shown_later before ss header h =
@@ -181,10 +189,14 @@ module _ (files : Option Files) (g : Geometry) (id : ℕ) (key : Key) (hit : Typ
       → AreRight files g id key hit start (before ++ since) v ss w
   right_from start v0 before c since [] v w e = e
   right_from start v0 before c since (s ∷ ss) v w all =
-      let P : List WordStep → Type 0 = λ l. AreRight files g id key hit start l all.0 ss w in
-      (all.0, all.1, right_since start v0 before c since s v all.2, subst P
-          (sym (append_assoc before since (s ∷ [])))
-          (right_from start v0 before c (since ++ s ∷ []) ss all.0 w all.3))
+      let P : List WordStep → Type 0 = λ l. AreRight files g id key hit start l all.0 ss w in (
+        all.0,
+        all.1,
+        right_since start v0 before c since s v all.2,
+        subst P
+            (sym (append_assoc before since (s ∷ [])))
+            (right_from start v0 before c (since ++ s ∷ []) ss all.0 w all.3),
+      )
 
   -- so a call's steps are those of its parts
   pub right_parts : (start u w : View) (ss ts : List WordStep) → AreRight files g id key hit start [] start ss u
@@ -210,5 +222,20 @@ right_any files g id key hit hit' f start before (s ∷ ss) v w all =
     } in
     (all.0, all.1, wider, right_any files g id key hit hit' f start (before ++ s ∷ []) ss all.0 w all.3)
 
-pub ruleset callers = (known_found, known_left, known_looked, as_before, before_then, before_made, nothing_no_pin,
-    nothing_again, no_pin_more, right_arena, right_else, right_made, right_then, right_parts, right_any)
+pub ruleset callers = (
+  known_found,
+  known_left,
+  known_looked,
+  as_before,
+  before_then,
+  before_made,
+  nothing_no_pin,
+  nothing_again,
+  no_pin_more,
+  right_arena,
+  right_else,
+  right_made,
+  right_then,
+  right_parts,
+  right_any,
+)

@@ -32,7 +32,7 @@ pub data AskSteps (g : Geometry) (order : ℕ) (words : List ℕ) (until : ℕ) 
   got : (arena word offset : ℕ) (grant : Grant) → arena < until → IsBuddyAnswer 64 word order (Some offset)
       → block_of grant ≡ block_at (64 * arena + offset) order
       → AskSteps g order words until arena (Looked (Arena arena) word ∷ Granted
-          (block_at (64 * arena + offset) order) word ∷ []) (Got grant)
+      (block_at (64 * arena + offset) order) word ∷ []) (Got grant)
   raced : (arena word saw : ℕ) → arena < until → saw ≢ word
       → AskSteps g order words until arena (Looked (Arena arena) word ∷ Missed (Arena arena) saw ∷ []) (asked.Raced saw)
 
@@ -41,8 +41,8 @@ pub data OpenSteps (key : Key) (header : ℕ) (b : Block) : List WordStep → Pl
   lost : (saw found : ℕ) → saw ≢ 8 → OpenSteps key header b (Missed (State header) saw ∷ Returned b found ∷ []) (Bypass (Raced saw))
   filled : (cells bytes found : List ℕ) (named published : ℕ) (pin : Pin) → pin_header pin ≡ header → pin_block pin ≡ b
       → OpenSteps key header b (Opened header b cells ∷ Named header b (buffer_key key) named ∷
-          (fill_steps header b (buffer_key key) (cell_in bytes) 0 found
-          ++ Published header b (buffer_key key) published ∷ [])) (Filled pin)
+      (fill_steps header b (buffer_key key) (cell_in bytes) 0 found
+      ++ Published header b (buffer_key key) published ∷ [])) (Filled pin)
 
 -- a header, a block, and a buffer of both
 pub data PlaceSteps (g : Geometry) (key : Key) (order first : ℕ) (states : List ℕ) (from until : ℕ) : List WordStep → Placed → Type 0 where

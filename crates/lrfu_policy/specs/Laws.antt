@@ -23,7 +23,7 @@ VictimIsOne =
 abbrev pub NoneBetween : Type 0
 NoneBetween =
     (first count : ℕ) (entries : List (Option Entry)) (after : Option Rank) (r : Rank)
-        → IsLeast (Among first count) entries after (Some r) →
+    → IsLeast (Among first count) entries after (Some r) →
     (h : ℕ) (q : Rank) → Among first count h → h ≢ r.header → rank_at entries h ≡ Some q →
     is_above (Some r) q ≡ false → is_above after q ≡ false
 
