@@ -74,7 +74,7 @@ pub record Stands (parts : List StreamBytes) (encodings : List Encoding) (number
 pub record StandsOpaque (parts : List StreamBytes) (encodings : List Encoding) (number next : ℕ) (streams : List OpaqueStream) : Type 0 where
   pub found : parts_of number next parts ≡ as_streams number streams
   pub direct : (n : ℕ) → number ≤ n → n < next
-    → slice_get encodings n ≡ Some (record { kind = 0; dictionary_size = 0 })
+      → slice_get encodings n ≡ Some (record { kind = 0; dictionary_size = 0 })
 
 abbrev pub StandsBy : SoFar → ℕ → FileColumn → Content → Type 0
 StandsBy so_far number column (Written buffer) = Stands so_far.parts so_far.encodings number buffer
