@@ -71,7 +71,8 @@ pub record Stands (parts : List StreamBytes) (encodings : List Encoding) (number
   pub has_streams : HasStreams number parts (streams_of encoded)
 
 -- so has one that isn't read
-pub record StandsOpaque (parts : List StreamBytes) (encodings : List Encoding) (number next : ℕ) (streams : List OpaqueStream) : Type 0 where
+pub record StandsOpaque (parts : List StreamBytes) (encodings : List Encoding) (number next : ℕ) (streams : List OpaqueStream)
+    : Type 0 where
   pub found : parts_of number next parts ≡ as_streams number streams
   pub direct : (n : ℕ) → number ≤ n → n < next
       → slice_get encodings n ≡ Some (record { kind = 0; dictionary_size = 0 })
