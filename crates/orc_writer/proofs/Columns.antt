@@ -2,7 +2,9 @@
 use Rattle.std.proofs.Common.{◌≡◌, ℕ, zero, suc, ◌+◌, Bool, true, false, List, [], ◌∷◌, ◌++◌, length, map, take, drop, Option, Some, None, All, refl, sym, ap, subst, ◌∙◌, arith, append_assoc, append-nil, length-append}
 use Rattle.std.specs.List.{insert}
 use Rattle.std.specs.Prelude.{◌==◌, if◌then◌else◌}
-use Rattle.std.proofs.lemmas.Bool.{eqb-true}
+use Rattle.std.specs.Option.{is_some}
+use Rattle.std.specs.Prelude.{IsTrue}
+use Rattle.std.proofs.lemmas.Bool.{eqb-true, false≢true}
 use Rattle.std.proofs.lemmas.List.Elements.{All-nil, All-cons, All-head, All-tail, All-append, All-take, All-drop}
 use Rattle.orc_values.specs.declared.value.Value.{Value}
 use Rattle.orc_columns.specs.declared.spelling.Spelling.{Spelling as Spelled}
@@ -256,3 +258,9 @@ shapes_map (c ∷ columns) = ap (λ (f : FileColumn). f ∷ map file_column (sha
     same_column : (column : FileColumn) (content : Content) → file_column (shape_by column content) ≡ column
     same_column column (Written buffer) = refl
     same_column column (Opaque streams) = refl
+
+-- ---- whether a kind has its spelling
+
+pub possible : (o p : Option Spelled) (r : Bool) → r ≡ is_some o → o ≡ p → (IsTrue r → (s : Spelled) × (p ≡ Some s)) × (((s : Spelled) × (p ≡ Some s)) → IsTrue r)
+possible None p r answers is = (λ t. absurd (false≢true (sym answers ∙ t)), λ of. absurd (let known = is ∙ of.1 in cc))
+possible (Some s) p r answers is = (λ t. (s, sym is), λ of. answers)

@@ -1,5 +1,5 @@
 //! What a writer begins with.
-ghost use Rattle.std.specs.Prelude.{◌≡◌, ◌∷◌, [], All, IfOk, OnOk};
+ghost use Rattle.std.specs.Prelude.{◌≡◌, ◌∷◌, [], ◌↔◌, All, IfOk, OnOk, IsTrue};
 ghost use Rattle.orc_writer.specs.Given.{IsSpec, number_of};
 ghost use Rattle.orc_writer.specs.Making.{AreMade, AddsMade, IsMadeOf};
 
@@ -74,6 +74,15 @@ fn table_column(alloc: Global, spec: ColumnSpec) -> TableColumn
             children: Vec::new(alloc),
         },
         content: Content::Written(ColumnBuffer::new(alloc, spelled)),
+    }
+}
+
+impl ColumnSpec {
+    /// Whether the column's kind has its spelling.
+    pub fn is_possible(&self) -> bool
+        ensures { IsTrue result ↔ IsSpec self.now }
+    {
+        spelling_of(self.kind, Some(encoding_of(self.spelling))).is_some()
     }
 }
 

@@ -2,6 +2,8 @@
 ghost use Rattle.std.specs.Prelude.{◌≡◌, ◌≤◌, length, OnOk, OnErr};
 ghost use Rattle.std.specs.List.{insert};
 ghost use Rattle.table_columns.specs.declared.table_column.Content.TheVariants.{Opaque};
+ghost use Rattle.table_columns.specs.Tables.{shapes_of};
+ghost use Rattle.orc_writer.specs.Given.{count_written};
 ghost use Rattle.orc_writer.specs.Placing.{is_written, IsPlace, IsInserted};
 
 use outside::NoMemory;
@@ -56,6 +58,20 @@ fn place_of(columns: &[TableColumn], before: u32) -> usize
         return 0;
     }
     1 + place_of(columns, before - 1)
+}
+
+/// How many columns are written.
+pub(crate) fn count_written(columns: &[TableColumn]) -> usize
+    ensures count { result ≡ count_written (shapes_of columns.now) }
+    ensures within { result ≤ length columns.now }
+{
+    let Some((column, columns)) = columns.split_first() else {
+        return 0;
+    };
+    if !is_written(&column.content) {
+        return count_written(columns);
+    }
+    1 + count_written(columns)
 }
 
 /// Whether a column's rows are written.

@@ -1,5 +1,5 @@
 //! The writer.
-ghost use Rattle.std.specs.Prelude.{◌≡◌, ◌≤◌, ◌<◌, length, All, IfOk, OnOk, OnErr};
+ghost use Rattle.std.specs.Prelude.{◌≡◌, ◌≤◌, ◌<◌, length, All, ◌↔◌, IfOk, OnOk, OnErr, IsTrue};
 ghost use Rattle.outside.specs.Cause.{Cause};
 ghost use Rattle.orc_rows.specs.Rows.{Rows};
 ghost use Rattle.table_columns.specs.Shapes.{RowFits, opaque};
@@ -11,7 +11,7 @@ use crate::column_spec::ColumnSpec;
 use crate::ending::end_file;
 use crate::fault::MakeFault;
 use crate::making::{magic, table_columns};
-use crate::placing::insert_opaque;
+use crate::placing::{count_written, insert_opaque};
 use crate::stripes::{push_last, push_stripe};
 use crate::waiting::{let_go, push_values};
 use orc_tail::Stripe;
@@ -19,7 +19,7 @@ use orc_values::Value;
 use outside::{Bytes, NoMemory, Sink};
 use std::alloc::Global;
 use std::marker::Model;
-use table_columns::{OpaqueStream, TableColumn};
+use table_columns::{OpaqueStream, TableColumn, takes};
 use tail_writer::FileColumn;
 
 /// A file that is written row by row.
@@ -88,6 +88,20 @@ impl Writer {
             stripe_rows,
             pushed: 0,
         })
+    }
+
+    /// How many columns are written.
+    pub fn written_columns(&self) -> usize
+        ensures { result ≡ count_written (shapes self.now) }
+    {
+        count_written(&self.columns)
+    }
+
+    /// Whether a row has a value for each column that is written, and for no other: null, or of the column's kind.
+    pub fn takes(&self, row: &[Value]) -> bool
+        ensures { IsTrue result ↔ RowFits (shapes self.now) row.now }
+    {
+        takes(&self.columns, row)
     }
 
     /// Adds a column that nobody reads: its name, its kind, the kinds of its children, which have none themselves, and the streams

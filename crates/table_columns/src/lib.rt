@@ -4,9 +4,11 @@
 mod clearing;
 mod encodings;
 mod row_push;
+mod row_test;
 mod table_column;
 
 pub use clearing::clear;
 pub use encodings::encoding_number;
 pub use row_push::push_row;
+pub use row_test::takes;
 pub use table_column::{Content, OpaqueStream, TableColumn};
