@@ -11,7 +11,11 @@ use Rattle.outside.specs.Files.{File, Files, AreFiles}
 -- the footer with the stripe and the types, the postscript and its length
 abbrev pub worked_file : List ℕ
 worked_file =
-    0x4F ∷ 0x52 ∷ 0x43 ∷ 0x61 ∷ 0x00 ∷ 0x07 ∷ 0x0A ∷ 0x06 ∷ 0x08 ∷ 0x01 ∷ 0x10 ∷ 0x01 ∷ 0x18 ∷ 0x03 ∷ 0x12 ∷ 0x02 ∷ 0x08 ∷ 0x00 ∷ 0x12 ∷ 0x02 ∷ 0x08 ∷ 0x00 ∷ 0x1A ∷ 0x0A ∷ 0x08 ∷ 0x03 ∷ 0x10 ∷ 0x00 ∷ 0x18 ∷ 0x03 ∷ 0x20 ∷ 0x10 ∷ 0x28 ∷ 0x64 ∷ 0x22 ∷ 0x08 ∷ 0x08 ∷ 0x0C ∷ 0x12 ∷ 0x01 ∷ 0x01 ∷ 0x1A ∷ 0x01 ∷ 0x78 ∷ 0x22 ∷ 0x02 ∷ 0x08 ∷ 0x04 ∷ 0x30 ∷ 0x64 ∷ 0x08 ∷ 0x1C ∷ 0x10 ∷ 0x00 ∷ 0x22 ∷ 0x02 ∷ 0x00 ∷ 0x0C ∷ 0x28 ∷ 0x00 ∷ 0x82 ∷ 0xF4 ∷ 0x03 ∷ 0x03 ∷ 0x4F ∷ 0x52 ∷ 0x43 ∷ 0x11 ∷ []
+    0x4F ∷ 0x52 ∷ 0x43 ∷ 0x61 ∷ 0x00 ∷ 0x07 ∷ 0x0A ∷ 0x06 ∷ 0x08 ∷ 0x01 ∷ 0x10 ∷ 0x01 ∷ 0x18 ∷ 0x03 ∷ 0x12 ∷ 0x02 ∷
+    0x08 ∷ 0x00 ∷ 0x12 ∷ 0x02 ∷ 0x08 ∷ 0x00 ∷ 0x1A ∷ 0x0A ∷ 0x08 ∷ 0x03 ∷ 0x10 ∷ 0x00 ∷ 0x18 ∷ 0x03 ∷ 0x20 ∷ 0x10 ∷
+    0x28 ∷ 0x64 ∷ 0x22 ∷ 0x08 ∷ 0x08 ∷ 0x0C ∷ 0x12 ∷ 0x01 ∷ 0x01 ∷ 0x1A ∷ 0x01 ∷ 0x78 ∷ 0x22 ∷ 0x02 ∷ 0x08 ∷ 0x04 ∷
+    0x30 ∷ 0x64 ∷ 0x08 ∷ 0x1C ∷ 0x10 ∷ 0x00 ∷ 0x22 ∷ 0x02 ∷ 0x00 ∷ 0x0C ∷ 0x28 ∷ 0x00 ∷ 0x82 ∷ 0xF4 ∷ 0x03 ∷ 0x03 ∷
+    0x4F ∷ 0x52 ∷ 0x43 ∷ 0x11 ∷ []
 
 abbrev pub worked_files : Files
 worked_files = (codes "t.orc", worked_file) ∷ []
@@ -25,8 +29,10 @@ none_pairs i j d before below = absurd (omega (arith, below))
 files_are_files : AreFiles worked_files
 files_are_files = record {
   few = omega arith;
-  distinct = AllPairs-cons (λ (f g : File). f.0 ≢ g.0) (codes "t.orc", worked_file) [] (All-nil (λ (g : File). codes "t.orc" ≢ g.0)) none_pairs;
-  bytes = All-cons (λ (f : File). All (λ b. b < 256) f.1) (codes "t.orc", worked_file) [] bytes_in_range (All-nil (λ (f : File). All (λ b. b < 256) f.1));
+  distinct = AllPairs-cons (λ (f g : File). f.0 ≢ g.0) (codes "t.orc", worked_file) []
+      (All-nil (λ (g : File). codes "t.orc" ≢ g.0)) none_pairs;
+  bytes = All-cons (λ (f : File). All (λ b. b < 256) f.1) (codes "t.orc", worked_file) [] bytes_in_range
+      (All-nil (λ (f : File). All (λ b. b < 256) f.1));
 }
 
 -- these files are few, have distinct names, and hold bytes
@@ -37,12 +43,7 @@ told_are_files told e = subst (λ (files : Files). AreFiles files) (same_Some wo
 
 -- 100 rows of -4
 abbrev pub falling_file : List ℕ
-falling_file =
-    0x4F ∷ 0x52 ∷ 0x43 ∷ 0x61 ∷ 0x00 ∷ 0x07 ∷ 0x0A ∷ 0x06 ∷ 0x08 ∷ 0x01 ∷ 0x10 ∷ 0x01 ∷ 0x18 ∷ 0x03 ∷ 0x12 ∷ 0x02 ∷
-    0x08 ∷ 0x00 ∷ 0x12 ∷ 0x02 ∷ 0x08 ∷ 0x00 ∷ 0x1A ∷ 0x0A ∷ 0x08 ∷ 0x03 ∷ 0x10 ∷ 0x00 ∷ 0x18 ∷ 0x03 ∷ 0x20 ∷ 0x10 ∷
-    0x28 ∷ 0x64 ∷ 0x22 ∷ 0x08 ∷ 0x08 ∷ 0x0C ∷ 0x12 ∷ 0x01 ∷ 0x01 ∷ 0x1A ∷ 0x01 ∷ 0x78 ∷ 0x22 ∷ 0x02 ∷ 0x08 ∷ 0x04 ∷
-    0x30 ∷ 0x64 ∷ 0x08 ∷ 0x1C ∷ 0x10 ∷ 0x00 ∷ 0x22 ∷ 0x02 ∷ 0x00 ∷ 0x0C ∷ 0x28 ∷ 0x00 ∷ 0x82 ∷ 0xF4 ∷ 0x03 ∷ 0x03 ∷
-    0x4F ∷ 0x52 ∷ 0x43 ∷ 0x11 ∷ []
+falling_file = worked_file
 
 -- 100 rows from 50 down to -49
 abbrev pub stepping_file : List ℕ
@@ -69,10 +70,14 @@ two_are_files : AreFiles two_files
 two_are_files = record {
   few = omega arith;
   distinct = AllPairs-cons (λ (f g : File). f.0 ≢ g.0) (codes "a.orc", falling_file) ((codes "b.orc", stepping_file) ∷ [])
-      (All-cons (λ (g : File). codes "a.orc" ≢ g.0) (codes "b.orc", stepping_file) [] names_differ (All-nil (λ (g : File). codes "a.orc" ≢ g.0)))
-      (AllPairs-cons (λ (f g : File). f.0 ≢ g.0) (codes "b.orc", stepping_file) [] (All-nil (λ (g : File). codes "b.orc" ≢ g.0)) none_pairs);
-  bytes = All-cons (λ (f : File). All (λ b. b < 256) f.1) (codes "a.orc", falling_file) ((codes "b.orc", stepping_file) ∷ []) falling_in_range
-      (All-cons (λ (f : File). All (λ b. b < 256) f.1) (codes "b.orc", stepping_file) [] stepping_in_range (All-nil (λ (f : File). All (λ b. b < 256) f.1)));
+      (All-cons (λ (g : File). codes "a.orc" ≢ g.0) (codes "b.orc", stepping_file) [] names_differ
+      (All-nil (λ (g : File). codes "a.orc" ≢ g.0)))
+      (AllPairs-cons (λ (f g : File). f.0 ≢ g.0) (codes "b.orc", stepping_file) []
+      (All-nil (λ (g : File). codes "b.orc" ≢ g.0)) none_pairs);
+  bytes = All-cons (λ (f : File). All (λ b. b < 256) f.1) (codes "a.orc", falling_file)
+      ((codes "b.orc", stepping_file) ∷ []) falling_in_range
+      (All-cons (λ (f : File). All (λ b. b < 256) f.1) (codes "b.orc", stepping_file) [] stepping_in_range
+      (All-nil (λ (f : File). All (λ b. b < 256) f.1)));
 }
 
 -- these files too are few, have distinct names, and hold bytes

@@ -2,6 +2,8 @@
 #![tactic(auto)]
 
 #[cfg(test)]
+mod cache_lines;
+#[cfg(test)]
 mod calls;
 #[cfg(test)]
 mod damaged;

@@ -82,7 +82,26 @@ fn run(alloc: Global, call: &Call<'_>, source: &mut MemorySource, sink: &mut Mem
     ).code()
 }
 
-/// Whether a call ends with that exit status, and writes just that text.
+/// Whether the bytes are the line of the cache, which is shorter than this.
+fn is_cache_line(bytes: &[u8]) -> bool {
+    bytes.starts_with(b"cache hit ") && bytes.ends_with(b" moved 0\n") && bytes.len() < 80
+}
+
+/// Whether just that text was written, and behind it the line of the cache where the exit status is that of a run.
+fn wrote(sink: &MemorySink, code: u8, text: &str) -> bool {
+    let Some(written) = sink.written() else {
+        return false;
+    };
+    if written.get(..text.len()) != Some(text.as_bytes()) {
+        return false;
+    }
+    match written.get(text.len()..) {
+        Some(rest) => (code < 2 && is_cache_line(rest)) || (code >= 2 && rest.is_empty()),
+        None => false,
+    }
+}
+
+/// Whether a call ends with that exit status, and writes just that text, and the cache's line behind the results of a run.
 pub fn answers(alloc: Global, call: &Call<'_>, code: u8, text: &str) -> bool {
     let Some(mut source) = source_of(alloc, call.plan, call.failing_read) else {
         return false;
@@ -91,7 +110,7 @@ pub fn answers(alloc: Global, call: &Call<'_>, code: u8, text: &str) -> bool {
         return false;
     };
     let answered = run(alloc, call, &mut source, &mut sink);
-    answered == code && sink.written() == Some(text.as_bytes())
+    answered == code && wrote(&sink, code, text)
 }
 
 fn no_words(alloc: Global) -> Option<Options>
@@ -103,23 +122,39 @@ fn no_words(alloc: Global) -> Option<Options>
     }
 }
 
-/// Whether a plan over that file, run by `alone`, ends with that exit status, and writes just that text.
-pub fn prints(alloc: Global, file: &[u8], plan: &[u8], code: u8, text: &str) -> bool {
-    let Some(mut sink) = sink_of(alloc, 0) else {
-        return false;
-    };
-    let Some(options) = no_words(alloc) else {
-        return false;
-    };
+/// The exit status of a plan over that file, run by `alone`.
+fn run_alone(alloc: Global, file: &[u8], plan: &[u8], sink: &mut MemorySink) -> Option<u8> {
+    let options = no_words(alloc)?;
     let mut store = OneFile { bytes: file };
-    let status = alone::<RealWorld, _, _>(alloc, &options, plan, &mut store, &mut sink);
-    status.code() == code && sink.written() == Some(text.as_bytes())
+    Some(alone::<RealWorld, _, _>(alloc, &options, plan, &mut store, sink).code())
+}
+
+/// Whether a plan over that file ends with that exit status, and writes just that text, and the cache's line behind the results of a run.
+pub fn prints(alloc: Global, file: &[u8], plan: &[u8], code: u8, text: &str) -> bool {
+    match sink_of(alloc, 0) {
+        Some(mut sink) => {
+            run_alone(alloc, file, plan, &mut sink) == Some(code) && wrote(&sink, code, text)
+        }
+        None => false,
+    }
+}
+
+/// Whether a plan over that file writes just that text, the cache's line included.
+pub fn prints_whole(alloc: Global, file: &[u8], plan: &[u8], text: &str) -> bool {
+    match sink_of(alloc, 0) {
+        Some(mut sink) => {
+            run_alone(alloc, file, plan, &mut sink).is_some()
+                && sink.written() == Some(text.as_bytes())
+        }
+        None => false,
+    }
 }
 
 /// Whether the fragment `s`, which sums the file's column `x`, writes that text, and the exit status fits it.
 pub fn sums_to(alloc: Global, file: &[u8], text: &str) -> bool {
     let call = Call {
-        words: &[],
+        // A small cache is made sooner.
+        words: &["--min-block", "64", "--arenas", "1"],
         plan: "s sum x from t.orc",
         failing_read: 0,
         failing_write: 0,

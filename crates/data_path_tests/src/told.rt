@@ -77,12 +77,15 @@ const READS: [FileRange; 4] = [
     },
 ];
 
+/// What is printed of the worked file.
+const SUM: &str = "s sum -400\ncache hit 0 filled 4 bypass 0 evicted 0 moved 0\n";
+
 /// Whether the sure forms end with the sum, and tell its line and its four reads.
 fn sure_forms_sum(alloc: Global) -> Option<bool> {
     let mut store = SureStore::<WorkedWorld>::new(alloc, files(alloc)?, 8).ok()?;
-    let mut sink = SureSink::new(alloc, 64).ok()?;
+    let mut sink = SureSink::new(alloc, 128).ok()?;
     let status = sum_over(alloc, SureSource::new(plan(alloc)?), &mut store, &mut sink);
-    let told = sink.written() == Some(b"s sum -400\n".as_slice());
+    let told = sink.written() == Some(SUM.as_bytes());
     Some(status == Status::Done && told && store.logged() == READS.get(..))
 }
 
@@ -90,19 +93,45 @@ fn sure_forms_sum(alloc: Global) -> Option<bool> {
 fn memory_forms_tell(alloc: Global, failing: u64, text: &str, reads: usize) -> Option<bool> {
     let fails = [failing].to_vec(alloc).ok()?;
     let mut store = MemoryStore::<WorkedWorld>::new(alloc, files(alloc)?, fails, 8).ok()?;
-    let mut sink = MemorySink::new(alloc, Vec::new(alloc), 64).ok()?;
+    let mut sink = MemorySink::new(alloc, Vec::new(alloc), 128).ok()?;
     let source = MemorySource::new(plan(alloc)?, Vec::new(alloc));
     let done = sum_over(alloc, source, &mut store, &mut sink) == Status::Done;
     let told = sink.written() == Some(text.as_bytes()) && store.logged() == READS.get(..reads);
     Some(told && done == (failing == 0))
 }
 
-/// The store's failing call, from 1 on, and how many reads were told before it.
-const FAILING: [(u64, usize); 5] = [(1, 0), (2, 0), (3, 1), (4, 2), (5, 3)];
+/// The store's failing call, from 1 on, what is printed, and how many reads were told before it.
+const FAILING: [(u64, &str, usize); 5] = [
+    (
+        1,
+        "s failed read fault\ncache hit 0 filled 0 bypass 0 evicted 0 moved 0\n",
+        0,
+    ),
+    (
+        2,
+        "s failed read fault\ncache hit 0 filled 0 bypass 0 evicted 0 moved 0\n",
+        0,
+    ),
+    (
+        3,
+        "s failed read fault\ncache hit 0 filled 1 bypass 0 evicted 0 moved 0\n",
+        1,
+    ),
+    (
+        4,
+        "s failed read fault\ncache hit 0 filled 2 bypass 0 evicted 0 moved 0\n",
+        2,
+    ),
+    (
+        5,
+        "s failed read fault\ncache hit 0 filled 3 bypass 0 evicted 0 moved 0\n",
+        3,
+    ),
+];
 
 fn each_failing_call_is_told(alloc: Global) -> bool {
-    for (call, reads) in &FAILING {
-        if memory_forms_tell(alloc, *call, "s failed read fault\n", *reads) != Some(true) {
+    for (call, text, reads) in &FAILING {
+        if memory_forms_tell(alloc, *call, text, *reads) != Some(true) {
             return false;
         }
     }
@@ -112,7 +141,7 @@ fn each_failing_call_is_told(alloc: Global) -> bool {
 #[test]
 fn a_told_file_is_summed_with_four_reads(rt: HostRuntime) {
     assert!(rt; sure_forms_sum(rt.alloc()) == Some(true));
-    assert!(rt; memory_forms_tell(rt.alloc(), 0, "s sum -400\n", 4) == Some(true));
+    assert!(rt; memory_forms_tell(rt.alloc(), 0, SUM, 4) == Some(true));
 }
 
 #[test]

@@ -73,13 +73,28 @@ const SUMS: &str = "s sum x from a.orc\nt sum x from b.orc\n";
 
 /// Plans, the number of the call that fails, the text, and how many reads there are.
 const ROWS: [(&str, u64, &str, usize); 6] = [
-    (SUMS, 0, "s sum -400\nt sum 50\n", 8),
-    (SUMS, 3, "s failed read fault\nt sum 50\n", 5),
-    (SUMS, 6, "s sum -400\nt failed read fault\n", 4),
+    (
+        SUMS,
+        0,
+        "s sum -400\nt sum 50\ncache hit 0 filled 8 bypass 0 evicted 0 moved 0\n",
+        8,
+    ),
+    (
+        SUMS,
+        3,
+        "s failed read fault\nt sum 50\ncache hit 0 filled 5 bypass 0 evicted 0 moved 0\n",
+        5,
+    ),
+    (
+        SUMS,
+        6,
+        "s sum -400\nt failed read fault\ncache hit 0 filled 4 bypass 0 evicted 0 moved 0\n",
+        4,
+    ),
     (
         "s sum x from a.orc\nt sum x from b.orc\nm merge t,s\n",
         3,
-        "s failed read fault\nt sum 50\nm failed source s\n",
+        "s failed read fault\nt sum 50\nm failed source s\ncache hit 0 filled 5 bypass 0 evicted 0 moved 0\n",
         5,
     ),
     (
@@ -88,7 +103,12 @@ const ROWS: [(&str, u64, &str, usize); 6] = [
         "plan line 2: unknown fragment\n",
         0,
     ),
-    ("n count from a.orc\n", 0, "n count 100\n", 2),
+    (
+        "n count from a.orc\n",
+        0,
+        "n count 100\ncache hit 0 filled 2 bypass 0 evicted 0 moved 0\n",
+        2,
+    ),
 ];
 
 fn all_tell(alloc: Global) -> bool {
