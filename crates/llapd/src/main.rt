@@ -1,9 +1,11 @@
 //! The program: makes the real objects and calls the data path, which does all that matters.
 #![tactic(auto)]
 
-use command_line::{page_asked_for, usage_line};
+use command_line::{WordsFault, options, page_asked_for, usage_line};
 use data_path::{FolderError, Status, file_names, llapd, own_line, written};
-use outside::{FolderStore, OpenGate, RealWorld, Sink, StdinSource, StdoutSink};
+use generated_store::{Generated, Made};
+use outside::{FolderStore, NoMemory, OpenGate, RealWorld, Sink, StdinSource, StdoutSink};
+use std::alloc::Global;
 use std::process::ExitCode;
 use std::{env, io};
 
@@ -67,8 +69,11 @@ fn run_words<K: Sink>(rt: HostRuntime, words: &[String], out: &mut K) -> u8 {
         Err(FolderError::TooMany) => return own_line(out, b"too many files\n", TOO_MANY_FILES),
         Err(FolderError::NoMemory) => return NO_MEMORY,
     };
+    let Ok(made) = made_for(rt.alloc(), lent.as_slice()) else {
+        return NO_MEMORY;
+    };
     let mut plan = StdinSource::new(rt.reader());
-    let mut last = FolderStore::new(rt, names.as_slice());
+    let mut last = Generated::new(FolderStore::new(rt, names.as_slice()), made);
     let more = Vec::new(rt.alloc());
     let status = llapd::<RealWorld, _, _, _, _>(
         rt.alloc(),
@@ -80,4 +85,20 @@ fn run_words<K: Sink>(rt: HostRuntime, words: &[String], out: &mut K) -> u8 {
         &OpenGate,
     );
     status.code()
+}
+
+/// The generated file that the words ask for, where they are a command line that asks for one.
+fn made_for(alloc: Global, words: &[&str]) -> Result<Option<Made>, NoMemory> {
+    let options = match options(alloc, words) {
+        Ok(options) => options,
+        Err(WordsFault::Usage) => return Ok(None),
+        Err(WordsFault::NoMemory) => return Err(NoMemory),
+    };
+    match options.generated {
+        Some(number) => match Made::new(alloc, number, options.rows) {
+            Ok(made) => Ok(Some(made)),
+            Err(NoMemory) => Err(NoMemory),
+        },
+        None => Ok(None),
+    }
 }
