@@ -1,0 +1,82 @@
+//! A column that nobody reads, between two that are written.
+ghost use Rattle.std.specs.Prelude.{◌≤◌, All, IfSome};
+ghost use Rattle.orc_writer.specs.Writing.{IsFresh};
+
+use crate::one_file::scanned;
+use crate::writers::{made, push, writer_of};
+use orc_columns::Value;
+use orc_writer::{OpaqueStream, Spelling, Writer};
+use outside::Bytes;
+use std::alloc::Global;
+
+/// Two stripes of two rows and one. Each has DATA of the column 1, then PRESENT of the LIST 2 and DATA of its child 3, then DATA of the
+/// column 4; all encodings are DIRECT.
+const FILE: &[u8] = b"ORC\xFE\x02\x04PQxyz\xFE\x06\x08\
+\x0A\x06\x08\x01\x10\x01\x18\x03\x0A\x06\x08\x00\x10\x02\x18\x02\x0A\x06\x08\x01\x10\x03\x18\x03\x0A\x06\x08\x01\x10\x04\x18\x03\
+\x12\x02\x08\x00\x12\x02\x08\x00\x12\x02\x08\x00\x12\x02\x08\x00\x12\x02\x08\x00\
+\xFF\x0APQxyz\xFF\x0C\
+\x0A\x06\x08\x01\x10\x01\x18\x02\x0A\x06\x08\x00\x10\x02\x18\x02\x0A\x06\x08\x01\x10\x03\x18\x03\x0A\x06\x08\x01\x10\x04\x18\x02\
+\x12\x02\x08\x00\x12\x02\x08\x00\x12\x02\x08\x00\x12\x02\x08\x00\x12\x02\x08\x00";
+
+const PRINTED: &[u8] = b"r rows 3
+1\t3
+2\t4
+5\t6
+";
+
+/// A stream of the column, or of its only child.
+fn stream_of(alloc: Global, kind: u64, child: u32, bytes: &[u8]) -> Option<OpaqueStream>
+    requires { child ≤ 1 }
+    ensures { IfSome result (λ stream. stream.child ≤ 1) }
+{
+    let bytes = Bytes::new(Vec::from_slice(alloc, bytes).ok()?);
+    Some(OpaqueStream { kind, child, bytes })
+}
+
+/// PRESENT of the column, and DATA of its child.
+fn streams(alloc: Global) -> Option<Vec<OpaqueStream>>
+    ensures { IfSome result (λ streams. All (λ stream. stream.child ≤ 1) streams.items) }
+{
+    let mut streams = Vec::new(alloc);
+    streams.push(stream_of(alloc, 0, 0, b"PQ")?).ok()?;
+    streams.push(stream_of(alloc, 1, 1, b"xyz")?).ok()?;
+    Some(streams)
+}
+
+/// Adds a LIST of LONG in front of the second written column.
+fn push_list(alloc: Global, writer: &mut Writer) -> Option<()>
+    requires { IsFresh writer.old }
+{
+    if writer.written_columns() < 1 {
+        return None;
+    }
+    let name = Bytes::new(Vec::from_slice(alloc, b"o").ok()?);
+    let mut children = Vec::new(alloc);
+    children.push(4).ok()?;
+    writer
+        .push_opaque(1, name, 10, children, streams(alloc)?)
+        .ok()
+}
+
+/// Whether its streams stand in each stripe, and the rows beside it are read back.
+fn is_kept(alloc: Global) -> Option<bool> {
+    let columns = [
+        (b"a".as_slice(), 4, Spelling::Direct),
+        (b"c", 4, Spelling::Direct),
+    ];
+    let mut writer = writer_of(alloc, &columns, 2)?;
+    push_list(alloc, &mut writer)?;
+    for first in [1, 2, 5] {
+        let second = if first == 5 { 6 } else { first + 2 };
+        push(&mut writer, &[Value::Int(first), Value::Int(second)])?;
+    }
+    let file = made(alloc, writer)?;
+    let bytes = file.written()?;
+    let printed = scanned(alloc, bytes, "r rows a,c from t.orc")?;
+    Some(bytes.starts_with(FILE) && printed.written()? == PRINTED)
+}
+
+#[test]
+fn a_column_that_nobody_reads_is_kept(rt: HostRuntime) {
+    assert!(rt; is_kept(rt.alloc()) == Some(true));
+}
