@@ -1,14 +1,14 @@
 -- Numbers that stand in bytes, one after the other.
-use Rattle.std.proofs.Common.{◌≡◌, ℕ, ◌+◌, ◌*◌, ◌%◌, ◌^◌, ◌<◌, Bool, List, [], ◌∷◌, ◌++◌, length, get_or, bit_or, map, Option, Some, None, Bor, Result, Ok, Err, ℤ, refl, sym, ap, ◌∙◌, arith, append_assoc, append-nil}
+use Rattle.std.proofs.Common.{◌≡◌, ℕ, ◌+◌, ◌*◌, ◌%◌, ◌^◌, ◌<◌, ◌≤◌, Bool, List, [], ◌∷◌, ◌++◌, length, map, Option, Some, None, Bor, Result, Ok, Err, ℤ, refl, sym, ap, ◌∙◌, arith, append_assoc, append-nil}
 use Rattle.std.specs.Prelude.{IfSome}
 use Rattle.std.proofs.lemmas.List.{map-append}
-use Rattle.std.proofs.lemmas.Nat.{le_or_l, le_or_r}
 use Rattle.std.specs.List.{AllByRecursion}
 use Rattle.outside.specs.declared.run_fault.RunFault.{RunFault}
 use Rattle.outside.specs.Lending.{ReadsIn}
 use Rattle.outside.specs.Reading.{go_on, value}
 use Rattle.outside.specs.Varint.{IsVarint, AreVarints, none, one, open_varint, groups_within}
 use Rattle.outside.specs.VarintLaws.{varint-only}
+use Rattle.orc_integers.specs.Eights.{ArePairs, numbers_of_pairs}
 use Rattle.orc_integers.specs.InPlace.{NumberIn, IntegersIn}
 use Rattle.orc_integers.specs.Integers.{integer}
 
@@ -31,6 +31,27 @@ short-are (byte ∷ bytes) h = one (short-is byte h.0) (short-are bytes h.1)
 pub number-short : (byte : ℕ) (left : List ℕ) → byte < 128 → NumberIn (byte ∷ left) byte left
 number-short byte left h = record { front = byte ∷ []; parts = refl; is = short-is byte h }
 
+-- two bytes
+two-is : (first second : ℕ) → 128 ≤ first → second < 128 → IsVarint (first ∷ second ∷ []) (first % 128 + 128 * second)
+two-is first second ge lt = record {
+  front = first ∷ [];
+  last = second;
+  parts = refl;
+  goes_on = (ge, tt);
+  ends = lt;
+  short = omega arith;
+  is = omega arith;
+}
+
+pub number-two : (first second : ℕ) (left : List ℕ) → 128 ≤ first → second < 128
+    → NumberIn (first ∷ second ∷ left) (first % 128 + 128 * second) left
+number-two first second left ge lt = record { front = first ∷ second ∷ []; parts = refl; is = two-is first second ge lt }
+
+pairs-are : (bytes : List ℕ) → ArePairs bytes → AreVarints bytes (numbers_of_pairs bytes)
+pairs-are [] h = none
+pairs-are (first ∷ []) h = absurd h
+pairs-are (first ∷ second ∷ bytes) h = one (two-is first second h.0.0 h.0.1) (pairs-are bytes h.1)
+
 first_open : (read : Result (ℕ × List ℕ) RunFault)
     → go_on read (λ groups. value (groups % 2 ^ 64)) ≡ go_on read (λ high. value ((0 + 2 ^ (7 * 0) * high) % 2 ^ 64))
 first_open (Ok (groups, rest)) = let e : groups ≡ 0 + 2 ^ (7 * 0) * groups = grind arith in ap (λ (n : ℕ). value (n % 2 ^ 64) rest) e
@@ -46,36 +67,6 @@ number-found {left = left} number at =
       parts = at.parts ∙ ap (λ (l : List ℕ). l ++ left) same;
       is = run.1;
     }
-
--- a list of eight, by its items
-pub eight_of : (xs : List ℕ) → length xs ≡ 8
-    → xs ≡ get_or xs 0 0 ∷ get_or xs 1 0 ∷ get_or xs 2 0 ∷ get_or xs 3 0 ∷ get_or xs 4 0 ∷ get_or xs 5 0 ∷ get_or xs 6 0 ∷ get_or xs 7 0 ∷ []
-eight_of [] n = absurd (omega arith)
-eight_of (_ ∷ []) n = absurd (omega arith)
-eight_of (_ ∷ _ ∷ []) n = absurd (omega arith)
-eight_of (_ ∷ _ ∷ _ ∷ []) n = absurd (omega arith)
-eight_of (_ ∷ _ ∷ _ ∷ _ ∷ []) n = absurd (omega arith)
-eight_of (_ ∷ _ ∷ _ ∷ _ ∷ _ ∷ []) n = absurd (omega arith)
-eight_of (_ ∷ _ ∷ _ ∷ _ ∷ _ ∷ _ ∷ []) n = absurd (omega arith)
-eight_of (_ ∷ _ ∷ _ ∷ _ ∷ _ ∷ _ ∷ _ ∷ []) n = absurd (omega arith)
-eight_of (_ ∷ _ ∷ _ ∷ _ ∷ _ ∷ _ ∷ _ ∷ _ ∷ []) n = refl
-eight_of (_ ∷ _ ∷ _ ∷ _ ∷ _ ∷ _ ∷ _ ∷ _ ∷ _ ∷ _) n = absurd (omega arith)
-
--- the bits of either are below a bound, where those of both are
-or-below : (a b n : ℕ) → bit_or a b < n → (a < n) × (b < n)
-or-below a b n h = (omega (arith, le_or_l a b), omega (arith, le_or_r a b))
-
-pub all-below : (a b c d e f g h n : ℕ) → bit_or (bit_or (bit_or (bit_or (bit_or (bit_or (bit_or a b) c) d) e) f) g) h < n
-    → AllByRecursion (λ x. x < n) (a ∷ b ∷ c ∷ d ∷ e ∷ f ∷ g ∷ h ∷ [])
-all-below a b c d e f g h n below =
-    let seven = or-below _ h n below in
-    let six = or-below _ g n seven.0 in
-    let five = or-below _ f n six.0 in
-    let four = or-below _ e n five.0 in
-    let three = or-below _ d n four.0 in
-    let two = or-below _ c n three.0 in
-    let one = or-below a b n two.0 in
-    (one.0, (one.1, (two.1, (three.1, (four.1, (five.1, (six.1, (seven.1, tt))))))))
 
 -- one byte more of a number that has begun
 pub open-goes : (groups count groups' count' byte : ℕ) {number : ℕ} {bytes left : List ℕ}
@@ -139,5 +130,16 @@ integers-short signed bytes left h = record {
   parts = refl;
   numbers = bytes;
   are = short-are bytes h;
+  values_are = refl;
+}
+
+-- numbers of two bytes each
+pub integers-pairs : (signed : Bool) (bytes left : List ℕ) → ArePairs bytes
+    → IntegersIn signed (bytes ++ left) (map (integer signed) (numbers_of_pairs bytes)) left
+integers-pairs signed bytes left h = record {
+  front = bytes;
+  parts = refl;
+  numbers = numbers_of_pairs bytes;
+  are = pairs-are bytes h;
   values_are = refl;
 }

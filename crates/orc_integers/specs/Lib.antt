@@ -1,3 +1,4 @@
+pub mod Eights
 pub mod Given
 pub mod HeldLaws
 pub mod InPlace

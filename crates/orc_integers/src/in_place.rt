@@ -1,11 +1,11 @@
 //! Varints that stand in bytes, read in place.
-ghost use Rattle.std.specs.Prelude.{◌≡◌, ◌<◌, true, length, map, IfSome};
-ghost use Rattle.std.specs.List.{AllByRecursion};
+ghost use Rattle.std.specs.Prelude.{◌≡◌, ◌<◌, length, map, IfSome};
 ghost use Rattle.outside.specs.Lending.{ReadsIn};
 ghost use Rattle.outside.specs.Varint.{open_varint};
 ghost use Rattle.orc_integers.specs.InPlace.{NumberIn, IntegersIn};
 ghost use Rattle.orc_integers.specs.Integers.{integer};
 
+use crate::eights::{are_pairs, are_short, pair_values, short_values};
 use crate::integers::bits_of;
 use outside::Begun;
 
@@ -15,10 +15,16 @@ use outside::Begun;
 pub fn varint_in<'a>(bytes: &'a [u8]) -> Option<(u64, &'a [u8])>
     ensures { IfSome result (λ p. NumberIn bytes.now p.0 p.1.now) }
 {
-    match bytes.split_first() {
-        Some((byte, rest)) if *byte < 128 => Some((u64::from(*byte), rest)),
-        _ => long_varint_in(bytes),
+    let (first, rest) = bytes.split_first()?;
+    if *first < 128 {
+        return Some((u64::from(*first), rest));
     }
+    let (second, left) = rest.split_first()?;
+    if *second < 128 {
+        let number = u64::from(*first % 128) + 128 * u64::from(*second);
+        return Some((number, left));
+    }
+    long_varint_in(bytes)
 }
 
 /// Does what `varint_in` does, for numbers of any length.
@@ -40,6 +46,18 @@ fn long_varint_in<'a>(bytes: &'a [u8]) -> Option<(u64, &'a [u8])>
 /// they stand for; it answers the bytes behind them. `None` where so many whole varints aren't there, and then what
 /// `into` holds isn't promised.
 pub fn integers_in<'a>(bytes: &'a [u8], signed: bool, into: &mut [i64]) -> Option<&'a [u8]>
+    ensures { IfSome result (λ left. IntegersIn signed bytes.now into.new left.now) }
+{
+    if signed {
+        integers_of(bytes, true, into)
+    } else {
+        integers_of(bytes, false, into)
+    }
+}
+
+/// Does what `integers_in` does, with code of its own for each sign.
+#[inline(always)]
+fn integers_of<'a>(bytes: &'a [u8], signed: bool, into: &mut [i64]) -> Option<&'a [u8]>
     ensures { IfSome result (λ left. IntegersIn signed bytes.now into.new left.now) }
 {
     let mut left = bytes;
@@ -68,7 +86,7 @@ fn few_in<'a>(bytes: &'a [u8], signed: bool, into: &mut [i64]) -> Option<&'a [u8
     Some(left)
 }
 
-/// Does what `integers_in` does for eight numbers, at once where each is one byte.
+/// Does what `integers_in` does for eight numbers, at once where each is one byte, or each is two.
 #[inline(always)]
 fn eight_in<'a>(bytes: &'a [u8], signed: bool, into: &mut [i64]) -> Option<&'a [u8]>
     requires { length into.old ≡ 8 }
@@ -76,29 +94,24 @@ fn eight_in<'a>(bytes: &'a [u8], signed: bool, into: &mut [i64]) -> Option<&'a [
 {
     match bytes.split_first_chunk::<8>() {
         Some((eight, left)) if are_short(eight) => {
-            write_short(signed, eight, into);
+            into.copy_from_slice(&short_values(signed, eight));
             Some(left)
         }
-        _ => few_in(bytes, signed, into),
+        _ => eight_pairs_in(bytes, signed, into),
     }
 }
 
-/// Whether each of eight bytes is a varint.
+/// Does what `eight_in` does, where the numbers aren't each one byte.
 #[inline(always)]
-fn are_short(eight: &[u8; 8]) -> bool
-    ensures { result ≡ true → AllByRecursion (λ byte. byte < 128) eight.now }
+fn eight_pairs_in<'a>(bytes: &'a [u8], signed: bool, into: &mut [i64]) -> Option<&'a [u8]>
+    requires { length into.old ≡ 8 }
+    ensures { IfSome result (λ left. IntegersIn signed bytes.now into.new left.now) }
 {
-    let [a, b, c, d, e, f, g, h] = *eight;
-    (a | b | c | d | e | f | g | h) < 128
-}
-
-/// Writes the values that numbers of one byte stand for to `into`, which has room for just these.
-#[inline(always)]
-fn write_short(signed: bool, bytes: &[u8], into: &mut [i64])
-    requires { length into.old ≡ length bytes.now }
-    ensures { into.new ≡ map (integer signed) bytes.now }
-{
-    for (i, byte) in bytes.iter().enumerate() {
-        into[i] = bits_of(signed, u64::from(*byte)).cast_signed();
+    match bytes.split_first_chunk::<16>() {
+        Some((pairs, left)) if are_pairs(pairs) => {
+            into.copy_from_slice(&pair_values(signed, pairs));
+            Some(left)
+        }
+        _ => few_in(bytes, signed, into),
     }
 }

@@ -2,6 +2,7 @@
 //! values of a run that are read and not yet given.
 #![tactic(auto)]
 
+mod eights;
 mod held;
 mod in_place;
 mod integers;

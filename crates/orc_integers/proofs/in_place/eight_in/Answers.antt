@@ -8,4 +8,5 @@ returns-in-Some c =
     let bytes = c.args.bytes.now in
     let e = c.in-Some.ensures.cases in
     let parts : bytes ≡ c.in-Some.eight.now ++ c.in-Some.left.now = rw (e.0, e.1) (sym (take-append-drop 8 bytes)) in
-    rw (parts, c.write_short.ensures) (integers-short c.args.signed c.in-Some.eight.now c.in-Some.left.now (c.are_short.ensures c.if-are_short.true))
+    rw (parts, c.copy_from_slice.ensures.after, c.short_values.ensures)
+    (integers-short c.args.signed c.in-Some.eight.now c.in-Some.left.now (c.are_short.ensures c.if-are_short.true))

@@ -2,7 +2,7 @@ use Rattle.std.proofs.Common.{◌≡◌, ◌+◌, ◌++◌, ◌∙◌, ℕ, ℤ,
 use Rattle.std.proofs.Math.Seq.{take-append-add}
 use Rattle.std.proofs.lemmas.List.{take_at}
 use Rattle.orc_integers.proofs.Numbers.{integers-none, integers-joined, integers-joined-if}
-use Rattle.orc_integers.proofs.in_place.integers_in.Goals as goal
+use Rattle.orc_integers.proofs.in_place.integers_of.Goals as goal
 
 pub loop-done-init : goal.loop-done-init
 loop-done-init c = record { within = omega arith; read = integers-none c.args.signed c.args.bytes.now }

@@ -1,6 +1,6 @@
 use Rattle.std.proofs.Common.{◌-◌, ◌≤◌, length, take}
 use Rattle.orc_integers.specs.InPlace.{IntegersIn}
-use Rattle.orc_integers.proofs.in_place.integers_in.Given as goal
+use Rattle.orc_integers.proofs.in_place.integers_of.Given as goal
 
 abbrev pub invariant-loop-done : goal.invariant-loop-done
 invariant-loop-done l = record {
