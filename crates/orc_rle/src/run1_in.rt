@@ -40,6 +40,7 @@ pub fn give_runs_in<'a>(
 
 /// Gives values of the run that is the front of these bytes, and holds the others; answers how many were given, and
 /// the bytes behind the run. `None` where no whole run stands there, and then none is held.
+#[inline(always)]
 fn give_run_in<'a>(
     bytes: &'a [u8],
     signed: bool,
@@ -64,6 +65,7 @@ fn give_run_in<'a>(
 
 /// Reads what follows the control of a run into `held`, and gives the first of its values, as many as there is room
 /// for; else as `give_run_in`.
+#[inline(never)]
 fn hold_run_in<'a>(
     bytes: &'a [u8],
     signed: bool,
@@ -93,6 +95,7 @@ fn hold_run_in<'a>(
 
 /// Reads what follows the control of a run into `into`, which has room for just its values; answers the bytes behind
 /// the run. `None` where it isn't whole, and then what `into` holds isn't promised.
+#[inline(always)]
 fn body_in<'a>(bytes: &'a [u8], signed: bool, control: u8, into: &mut [i64]) -> Option<&'a [u8]>
     requires { length into.old ≡ run_len control }
     ensures { IfSome result (λ left. ReadsIn (run_after signed control) bytes.now into.new left.now) }
@@ -104,6 +107,7 @@ fn body_in<'a>(bytes: &'a [u8], signed: bool, control: u8, into: &mut [i64]) -> 
     }
 }
 
+#[inline(always)]
 fn repeated_in<'a>(bytes: &'a [u8], signed: bool, into: &mut [i64]) -> Option<&'a [u8]>
     ensures { IfSome result (λ left. ReadsIn (repeated_run signed (length into.old)) bytes.now into.new left.now) }
 {
