@@ -1,13 +1,16 @@
 -- Runs that stand in bytes, read there.
-use Rattle.std.proofs.Common.{◌≡◌, ℕ, ◌-◌, ◌<◌, ◌≤◌, Bool, List, [], ◌∷◌, ◌++◌, length, take, Option, Some, None, Bor, ℤ, refl, ◌∙◌}
+use Rattle.std.proofs.Common.{◌≡◌, ℕ, ◌+◌, ◌-◌, ◌<◌, ◌≤◌, Bool, List, [], ◌∷◌, ◌++◌, length, take, Option, Some, None, Bor, ℤ, refl, ◌∙◌, arith}
 use Rattle.std.specs.Prelude.{IfSome}
-use Rattle.std.proofs.lemmas.Bool.{le-ltb}
+use Rattle.std.specs.Int.{w8, cast_signed}
+use Rattle.std.proofs.lemmas.Bool.{le-ltb, lt-ltb}
 use Rattle.outside.specs.Lending.{ReadsIn}
-use Rattle.outside.specs.LendingLaws.{ReadsIn-then, ReadsIn-same}
-use Rattle.outside.specs.Reading.{byte}
-use Rattle.orc_integers.specs.InPlace.{IntegersIn}
-use Rattle.orc_integers.specs.InPlaceLaws.{integers-read}
-use Rattle.orc_rle.specs.IntRun1.{literal_run, run_after, run_len, int_run1}
+use Rattle.outside.specs.LendingLaws.{ReadsIn-then, ReadsIn-map, ReadsIn-same}
+use Rattle.outside.specs.Reading.{byte, mapped}
+use Rattle.outside.specs.Varint.{varint}
+use Rattle.orc_integers.specs.InPlace.{NumberIn, IntegersIn}
+use Rattle.orc_integers.specs.InPlaceLaws.{number-read, integers-read}
+use Rattle.orc_integers.specs.Integers.{integer, ramp}
+use Rattle.orc_rle.specs.IntRun1.{literal_run, repeated_run, run_after, run_len, int_run1}
 use Rattle.orc_rle.proofs.RunReader.{run_after-literals}
 
 -- one byte
@@ -38,3 +41,12 @@ literals-read signed control bytes before after ge lt len same (Some left) one =
     let count : length after ≡ 256 - control = same ∙ len ∙ len-literals control ge in
     ReadsIn-same (run_after signed control) (literal_run signed (256 - control)) (λ bytes. run_after-literals signed control bytes ge lt)
     (integers-read signed (256 - control) after count one)
+
+-- a run of equal steps whose base is one byte
+pub short-ramp-read : (signed : Bool) (control delta base : ℕ) (left : List ℕ) → control < 128 → base < 128
+    → ReadsIn (int_run1 signed) (control ∷ delta ∷ base ∷ left) (ramp (integer signed base) (cast_signed w8 delta) (control + 3)) left
+short-ramp-read signed control delta base left lt short =
+    let number : NumberIn (base ∷ left) base left = record { front = base ∷ []; parts = refl; is = record { front = []; last = base; parts = refl; goes_on = tt; ends = short; short = omega arith; is = omega arith } } in
+    run-read signed control (ReadsIn-same (run_after signed control) (repeated_run signed (control + 3)) (λ bytes. rw (lt-ltb control 128 lt) refl)
+    (ReadsIn-then byte (λ delta. mapped (λ base. ramp (integer signed base) (cast_signed w8 delta) (control + 3)) varint) (byte-read delta (base ∷ left))
+    (ReadsIn-map varint (λ base. ramp (integer signed base) (cast_signed w8 delta) (control + 3)) (number-read number))))

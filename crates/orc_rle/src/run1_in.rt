@@ -53,6 +53,9 @@ fn give_run_in<'a>(
     ensures gives { IfSome result (λ p. GivesSome (length out.old) p.0 held.new) }
     ensures stays { IfNone result (held.new ≡ []) }
 {
+    if let Some((count, left)) = short_ramp_in(bytes, signed, out) {
+        return Some((count, left));
+    }
     let (control, rest) = bytes.split_first()?;
     let count = run_len(*control);
     if count > out.len() {
@@ -60,6 +63,31 @@ fn give_run_in<'a>(
     }
     let (into, _) = out.split_at_mut(count);
     let left = body_in(rest, signed, *control, into)?;
+    Some((count, left))
+}
+
+/// Gives the values of the run that is the front of these bytes, where its values are a step apart, the first is one
+/// byte, and there is room for all; else `None`.
+#[inline(always)]
+fn short_ramp_in<'a>(bytes: &'a [u8], signed: bool, out: &mut [i64]) -> Option<(usize, &'a [u8])>
+    ensures reads { IfSome result (λ p. ReadsIn (int_run1 signed) bytes.now (take p.0 out.new) p.1.now) }
+    ensures some { IfSome result (λ p. 0 < p.0) }
+    ensures within { IfSome result (λ p. p.0 ≤ length out.old) }
+{
+    let (head, left) = bytes.split_first_chunk::<3>()?;
+    let [control, delta, base] = *head;
+    if control >= 128 {
+        return None;
+    }
+    if base >= 128 {
+        return None;
+    }
+    let count = usize::from(control) + 3;
+    if count > out.len() {
+        return None;
+    }
+    let (into, _) = out.split_at_mut(count);
+    write_ramp(bits_of(signed, u64::from(base)), widened(delta), into);
     Some((count, left))
 }
 
