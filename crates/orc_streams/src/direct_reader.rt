@@ -82,6 +82,14 @@ impl<'a, W: World, S: Store<W>> Feed for DirectReader<'a, W, S> {
         self.streams.take(stream, into)
     }
 
+    fn lent(&self, stream: u32) -> &[u8] {
+        self.streams.lent(stream)
+    }
+
+    fn skip(&mut self, stream: u32, count: usize) -> Result<usize, Failed> {
+        self.streams.skip(stream, count)
+    }
+
     ghost fed_nothing = { λ r. (refl, refl, Fed-nothing r.streams.now) };
 
     ghost fed_joined = { λ first between last xs ys p q. (

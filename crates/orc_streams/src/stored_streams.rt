@@ -13,6 +13,27 @@ pub struct StoredStream {
 }
 
 impl StoredStream {
+    /// What is left, lent.
+    fn left(&self) -> &[u8]
+        ensures { result.now ≡ left_of self.now }
+    {
+        let from = self.taken.min(self.bytes.len());
+        &self.bytes[from..]
+    }
+
+    /// Passes over bytes of what is left, at most `count`.
+    fn skip(&mut self, count: usize) -> usize
+        ensures room { result ≤ count }
+        ensures len { result ≤ length (left_of self.old) }
+        ensures left { left_of self.new ≡ drop result (left_of self.old) }
+        ensures ends { (length (left_of self.old) ≤ result) ⊎ (count ≤ result) }
+    {
+        let from = self.taken.min(self.bytes.len());
+        let len = (self.bytes.len() - from).min(count);
+        self.taken = from + len;
+        len
+    }
+
     /// Takes bytes of what is left to the front of `into`, as many as fit.
     fn take(&mut self, into: &mut [u8]) -> usize
         ensures room { result ≤ length into.old }
@@ -95,6 +116,22 @@ impl Feed for StoredStreams {
             return Ok(0);
         }
         Ok(self.streams[stream].take(into))
+    }
+
+    fn lent(&self, stream: u32) -> &[u8] {
+        let stream = stream as usize;
+        if stream >= self.streams.len() {
+            return &[];
+        }
+        self.streams[stream].left()
+    }
+
+    fn skip(&mut self, stream: u32, count: usize) -> Result<usize, Failed> {
+        let stream = stream as usize;
+        if stream >= self.streams.len() {
+            return Ok(0);
+        }
+        Ok(self.streams[stream].skip(count))
     }
 
     ghost fed_nothing = { Fed-nothing };
