@@ -13,7 +13,7 @@ use Rattle.range_cuts.specs.Cuts.{begun, cut_at, cuts_between, size_of}
 use Rattle.held_ranges.specs.Deeds.{Deed, Keys, room_left, swap_fails, swapped, swaps}
 use Rattle.held_ranges.specs.Moments.{Moment, Ran, keys_of}
 use Rattle.cut_streams.specs.declared.cursor.Cursor.{Cursor}
-use Rattle.cut_streams.specs.Streams.{IsReady, IsSound, ReadiesBy, SwapsBy, TakesBy, before_cut, key_behind, moved, next_key, place_in}
+use Rattle.cut_streams.specs.Streams.{IsReady, IsSound, ReadiesBy, SwapsBy, TakesBy, before_cut, key_behind, moved, next_bytes, next_key, place_in}
 use Rattle.cut_streams.specs.Visits.{got_each, held_after}
 use Rattle.cut_streams.specs.Went.{Went}
 use Rattle.cut_streams.proofs.Doing.{went}
@@ -162,3 +162,11 @@ module _ (files : Option Files) (chunk file_len : ℕ) (c : Cursor) (bytes : Lis
   taken_are n into file fits copied ready told =
       copied ∙ part_is bytes file c.range.at (before_cut chunk c) (place_in chunk c) n (size_of c.range.len chunk (before_cut chunk c)) c.taken
       (omega (arith, stands chunk c.taken)) fits (ready file told)
+
+-- what is lent of a cut that was begun are the file's bytes
+pub lent_are : (files : Option Files) (chunk file_len : ℕ) (c : Cursor) (bytes lent file : List ℕ) → 0 < place_in chunk c
+    → place_in chunk c + length lent ≡ size_of c.range.len chunk (before_cut chunk c) → lent ≡ take (length lent) (drop (place_in chunk c) bytes)
+    → IsSound files chunk file_len c bytes → told_bytes files c.range.file ≡ Some file → lent ≡ next_bytes c (length lent) file
+lent_are files chunk file_len c bytes lent file more is are s told =
+    are ∙ part_is bytes file c.range.at (before_cut chunk c) (place_in chunk c) (length lent) (size_of c.range.len chunk (before_cut chunk c)) c.taken
+    (omega (arith, stands chunk c.taken)) (omega (arith, is)) (s.ready more file told)

@@ -1,5 +1,5 @@
 -- A stream that is got cut by cut: where it stands, and what its memory has. Source: this project's own.
-use Rattle.std.specs.Prelude.{◌≡◌, ◌<◌, ◌≤◌, ℕ, ◌+◌, ◌-◌, ◌%◌, List, length, take, Option, Some, IsSome, option_map, Result, Ok, Err}
+use Rattle.std.specs.Prelude.{◌≡◌, ◌<◌, ◌≤◌, ℕ, ◌+◌, ◌-◌, ◌%◌, List, length, take, Option, Some, IsSome, option_map, slice_range, Result, Ok, Err}
 use Rattle.buffer_word.specs.declared.key_word.Key.{Key}
 use Rattle.outside.specs.declared.failed.Failed.{Failed}
 use Rattle.outside.specs.declared.file_ref.FileRange.{FileRange}
@@ -22,6 +22,10 @@ opened range = record { range = range; taken = 0 }
 -- so many bytes more were taken
 abbrev pub moved : Cursor → ℕ → Cursor
 moved c n = record { range = c.range; taken = c.taken + n }
+
+-- so many bytes of a file, from where the stream stands
+abbrev pub next_bytes : Cursor → ℕ → List ℕ → List ℕ
+next_bytes c n file = slice_range file (c.range.at + c.taken) (c.range.at + c.taken + n)
 
 abbrev pub cursor_of : CutStream → Cursor
 cursor_of s = s.cursor

@@ -8,5 +8,5 @@ mod visiting;
 
 pub use cursor::Cursor;
 pub use stream::CutStream;
-pub use taking::take_from;
+pub use taking::{skip_from, take_from};
 pub use visiting::visit_cuts;

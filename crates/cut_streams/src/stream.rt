@@ -1,8 +1,9 @@
 //! A stream of a range of a file, with memory for a cut of it.
-ghost use Rattle.std.specs.Prelude.{◌≡◌, ◌<◌, ◌≤◌, ◌+◌, ◌^◌, length, take, drop, IfOk};
+ghost use Rattle.std.specs.Prelude.{◌≡◌, ◌<◌, ◌≤◌, ◌+◌, ◌^◌, ℕ, List, Option, Some, length, take, drop, IfOk};
 ghost use Rattle.outside.specs.Files.{range_of};
+ghost use Rattle.pool_model.specs.Content.{Files, told_bytes};
 ghost use Rattle.range_cuts.specs.Cuts.{size_of};
-ghost use Rattle.cut_streams.specs.Streams.{before_cut, bytes_in, closed, cursor_of, file_len_of, moved, opened, place_in};
+ghost use Rattle.cut_streams.specs.Streams.{IsSoundStream, before_cut, bytes_in, closed, cursor_of, file_len_of, moved, next_bytes, opened, place_in};
 
 use crate::Cursor;
 use outside::{FileRange, FileRef, NoMemory};
@@ -87,27 +88,64 @@ impl CutStream {
         self.open(nothing, 0, 0);
     }
 
-    /// Copies bytes of the cut in which the stream stands, from there on, to the front of `into`, as many as fit.
-    pub(crate) fn copy(&mut self, chunk: u32, into: &mut [u8]) -> usize
+    /// What is left of the cut in which the stream stands.
+    fn at_hand(&self, chunk: u32) -> &[u8]
         requires some { 1 ≤ chunk }
-        requires more { (cursor_of self.old).taken < (cursor_of self.old).range.len }
-        requires room { length (bytes_in self.old) ≡ chunk }
-        ensures fits { result ≤ length into.old }
-        ensures some { 0 < length into.old → 0 < result }
-        ensures within { place_in chunk (cursor_of self.old) + result
-            ≤ size_of (cursor_of self.old).range.len chunk (before_cut chunk (cursor_of self.old)) }
-        ensures bytes { take result into.new ≡ take result (drop (place_in chunk (cursor_of self.old)) (bytes_in self.old)) }
-        ensures cursor { cursor_of self.new ≡ moved (cursor_of self.old) result }
-        ensures file { file_len_of self.new ≡ file_len_of self.old }
-        ensures same { bytes_in self.new ≡ bytes_in self.old }
+        requires few { (cursor_of self.now).taken ≤ (cursor_of self.now).range.len }
+        requires room { length (bytes_in self.now) ≡ chunk }
+        ensures len { place_in chunk (cursor_of self.now) + length result.now
+            ≡ size_of (cursor_of self.now).range.len chunk (before_cut chunk (cursor_of self.now)) }
+        ensures inside { (cursor_of self.now).taken + length result.now ≤ (cursor_of self.now).range.len }
+        ensures fits { (cursor_of self.now).taken + length result.now < 2 ^ 64 }
+        ensures some { (cursor_of self.now).taken < (cursor_of self.now).range.len → 0 < length result.now }
+        ensures bytes { result.now ≡ take (length result.now) (drop (place_in chunk (cursor_of self.now)) (bytes_in self.now)) }
     {
         let place = place_of(self.cursor, chunk);
         let before = self.cursor.taken - place;
         let size = cut_size(self.cursor.range.len, chunk, before);
-        let ready = &self.bytes[place as usize..size as usize];
-        let len = ready.len().min(into.len());
-        into[..len].copy_from_slice(&ready[..len]);
+        &self.bytes[place as usize..size as usize]
+    }
+
+    /// Lends what is left of the cut in which the stream stands: nothing where it stands between two, of which the next wasn't got.
+    pub fn lent(&self, chunk: u32) -> &[u8]
+        requires some { 1 ≤ chunk }
+        requires few { (cursor_of self.now).taken ≤ (cursor_of self.now).range.len }
+        requires room { length (bytes_in self.now) ≡ chunk }
+        ensures inside { (cursor_of self.now).taken + length result.now ≤ (cursor_of self.now).range.len }
+        ensures bytes { (files : Option Files) (file : List ℕ) → IsSoundStream files chunk self.now
+            → told_bytes files (cursor_of self.now).range.file ≡ Some file
+            → result.now ≡ next_bytes (cursor_of self.now) (length result.now) file }
+    {
+        if place_of(self.cursor, chunk) == 0 {
+            return &[];
+        }
+        self.at_hand(chunk)
+    }
+
+    /// Passes over bytes of the cut in which the stream stands, at most `count`.
+    pub(crate) fn pass(&mut self, chunk: u32, count: usize) -> usize
+        requires some { 1 ≤ chunk }
+        requires more { (cursor_of self.old).taken < (cursor_of self.old).range.len }
+        requires room { length (bytes_in self.old) ≡ chunk }
+        ensures fits { result ≤ count }
+        ensures some { 0 < count → 0 < result }
+        ensures within { place_in chunk (cursor_of self.old) + result
+            ≤ size_of (cursor_of self.old).range.len chunk (before_cut chunk (cursor_of self.old)) }
+        ensures cursor { cursor_of self.new ≡ moved (cursor_of self.old) result }
+        ensures file { file_len_of self.new ≡ file_len_of self.old }
+        ensures same { bytes_in self.new ≡ bytes_in self.old }
+    {
+        let len = self.at_hand(chunk).len().min(count);
         self.cursor.taken += len as u64;
         len
+    }
+
+    /// Copies so many bytes of the memory, from a place on, to the front of `into`.
+    pub(crate) fn copy(&self, place: usize, len: usize, into: &mut [u8])
+        requires inside { place + len ≤ length (bytes_in self.now) }
+        requires fits { len ≤ length into.old }
+        ensures { take len into.new ≡ take len (drop place (bytes_in self.now)) }
+    {
+        into[..len].copy_from_slice(&self.bytes[place..place + len]);
     }
 }

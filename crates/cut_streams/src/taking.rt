@@ -1,5 +1,5 @@
 //! Bytes are taken from a stream, and the cut that they begin with is got before.
-ghost use Rattle.std.specs.Prelude.{◌≡◌, ◌<◌, ◌≤◌, ◌+◌, ◌^◌, ℕ, List, length, take, OnOk, Some, slice_range, IfOk};
+ghost use Rattle.std.specs.Prelude.{◌≡◌, ◌<◌, ◌≤◌, ◌+◌, ◌^◌, ℕ, List, length, take, drop, OnOk, Some, IfOk};
 ghost use Rattle.buffer_word.specs.KeyWord.{IsKey};
 ghost use Rattle.outside.specs.Cause.{HasCause};
 ghost use Rattle.pool_model.specs.Content.{told_bytes};
@@ -7,7 +7,7 @@ ghost use Rattle.buffer_pool.specs.Pools.{sizes_of};
 ghost use Rattle.range_cache.specs.Caches.{pool_of};
 ghost use Rattle.held_ranges.specs.Moments.{DeskHolds, keys_of, moment};
 ghost use Rattle.cut_streams.specs.Streams.{IsOpen, IsReady, IsSoundStream, ReadiesBy, SwapsBy, TakesBy};
-ghost use Rattle.cut_streams.specs.Streams.{bytes_in, cursor_of, file_len_of, key_behind, place_in};
+ghost use Rattle.cut_streams.specs.Streams.{bytes_in, cursor_of, file_len_of, key_behind, next_bytes, place_in};
 ghost use Rattle.cut_streams.specs.Visits.{IsChunk};
 ghost use Rattle.cut_streams.specs.Went.{Went};
 
@@ -101,11 +101,56 @@ fn make_ready<W: World, S: Store<W>>(
     }
 }
 
-/// Takes bytes from the front of what is left of a stream to the front of `into`, and answers how many.
+/// Passes over bytes at the front of what is left of a stream, at most `count`, and answers how many.
 ///
 /// They are of one cut: the one in which the stream stands, or, where it stands between two, the next, which is got for its slot
-/// before, in place of the one that the slot holds. It answers 0 for a non-empty `into` exactly at the stream's end. The chunk is that
-/// of the cache.
+/// before, in place of the one that the slot holds. It answers 0 for a `count` above 0 exactly at the stream's end. The chunk is that
+/// of the cache. The bytes that were passed over lie in the stream's memory, from the place on where it stood in the cut.
+///
+/// `Failed` comes only where the store's count of faults rose in this call; then nothing was taken, and the slot holds nothing. No
+/// memory is taken.
+pub fn skip_from<W: World, S: Store<W>>(
+    desk: &mut Desk<'_, W, S>,
+    slots: &mut Vec<Option<Held>>,
+    slot: usize,
+    chunk: u32,
+    stream: &mut CutStream,
+    count: usize,
+) -> Result<usize, Failed>
+    requires holding { DeskHolds (moment desk.old slots.old.items) }
+    requires slot { slot < length slots.old.items }
+    requires chunk { IsChunk (sizes_of (pool_of desk.old.cache.now)) chunk }
+    requires sound { IsSoundStream W.files chunk stream.old }
+    ensures holding { DeskHolds (moment desk.new slots.new.items) }
+    ensures went { Went W.files S.reads (moment desk.old slots.old.items) (moment desk.new slots.new.items)
+        (TakesBy chunk slot (cursor_of stream.old) (keys_of slots.old.items) result (cursor_of stream.new)) }
+    ensures slots { length slots.new.items ≡ length slots.old.items }
+    ensures sound { IsSoundStream W.files chunk stream.new }
+    ensures room { IfOk result (λ n. n ≤ count) }
+    ensures within { IfOk result (λ n. place_in chunk (cursor_of stream.old) + n ≤ chunk) }
+    ensures bytes { IfOk result (λ n. (file : List ℕ) → told_bytes W.files (cursor_of stream.old).range.file ≡ Some file
+        → take n (drop (place_in chunk (cursor_of stream.old)) (bytes_in stream.new)) ≡ next_bytes (cursor_of stream.old) n file) }
+    ensures ends { IfOk result (λ n. 0 < count → n ≡ 0
+        → (cursor_of stream.old).range.len ≤ (cursor_of stream.old).taken) }
+    ensures cause { HasCause (S.fault_count desk.old.store.now) (S.fault_count desk.new.store.now) result }
+    ensures seat_name { desk.new.seat.ghost_name ≡ desk.old.seat.ghost_name }
+    ensures evictor_name { desk.new.evictor.ghost_name ≡ desk.old.evictor.ghost_name }
+    ensures store_name { desk.new.store.ghost_name ≡ desk.old.store.ghost_name }
+    ensures totals_name { desk.new.totals.ghost_name ≡ desk.old.totals.ghost_name }
+    ensures cache { desk.new.cache.now ≡ desk.old.cache.now }
+{
+    if count == 0 || stream.cursor.taken >= stream.cursor.range.len {
+        return Ok(0);
+    }
+    match make_ready(desk, slots, slot, chunk, stream) {
+        Ok(()) => Ok(stream.pass(chunk, count)),
+        Err(failed) => Err(failed),
+    }
+}
+
+/// Takes bytes from the front of what is left of a stream to the front of `into`, as `skip_from` passes over them, and answers how many.
+///
+/// It answers 0 for a non-empty `into` exactly at the stream's end.
 ///
 /// `Failed` comes only where the store's count of faults rose in this call; then nothing was taken, and the slot holds nothing. No
 /// memory is taken.
@@ -128,8 +173,7 @@ pub fn take_from<W: World, S: Store<W>>(
     ensures sound { IsSoundStream W.files chunk stream.new }
     ensures room { IfOk result (λ n. n ≤ length into.old) }
     ensures bytes { IfOk result (λ n. (file : List ℕ) → told_bytes W.files (cursor_of stream.old).range.file ≡ Some file
-        → take n into.new ≡ slice_range file ((cursor_of stream.old).range.at + (cursor_of stream.old).taken)
-        ((cursor_of stream.old).range.at + (cursor_of stream.old).taken + n)) }
+        → take n into.new ≡ next_bytes (cursor_of stream.old) n file) }
     ensures ends { IfOk result (λ n. 0 < length into.old → n ≡ 0
         → (cursor_of stream.old).range.len ≤ (cursor_of stream.old).taken) }
     ensures cause { HasCause (S.fault_count desk.old.store.now) (S.fault_count desk.new.store.now) result }
@@ -139,11 +183,12 @@ pub fn take_from<W: World, S: Store<W>>(
     ensures totals_name { desk.new.totals.ghost_name ≡ desk.old.totals.ghost_name }
     ensures cache { desk.new.cache.now ≡ desk.old.cache.now }
 {
-    if into.len() == 0 || stream.cursor.taken >= stream.cursor.range.len {
-        return Ok(0);
-    }
-    match make_ready(desk, slots, slot, chunk, stream) {
-        Ok(()) => Ok(stream.copy(chunk, into)),
+    let place = place_of(stream.cursor, chunk) as usize;
+    match skip_from(desk, slots, slot, chunk, stream, into.len()) {
+        Ok(len) => {
+            stream.copy(place, len, into);
+            Ok(len)
+        }
         Err(failed) => Err(failed),
     }
 }
