@@ -1,10 +1,12 @@
-//! Stores of one file that tests read from.
+//! What tests read from: stores of one file, and the worked file with a world of its own.
 //!
-//! They tell nothing to contracts, so what reads them is proved by what its contract says of a real file.
+//! The stores tell nothing to contracts, so what reads them is proved by what its contract says of a real file.
 #![tactic(auto)]
 
 mod one_file;
 mod pattern;
+mod worked;
 
 pub use one_file::OneFile;
 pub use pattern::{Pattern, byte_at};
+pub use worked::{WORKED_FILE, WorkedWorld, worked_files};
