@@ -9,3 +9,4 @@ pub mod Steps
 pub mod MessageLaws
 pub mod PostScriptLaws
 pub mod TypeLaws
+pub mod FooterLaws

@@ -2,7 +2,7 @@
 use Rattle.std.proofs.Common.{◌≡◌, ℕ, Bool, true, false, List, [], ◌∷◌, ◌++◌, Result, Ok, Err, refl, ap, ◌∙◌, arith}
 use Rattle.std.specs.Prelude.{◌==◌, if◌then◌else◌}
 use Rattle.orc_proto.specs.declared.fault.WireFault.{WireFault}
-use Rattle.orc_proto.specs.Message.{Content, VARINT, I64, LEN, I32, Entry}
+use Rattle.orc_proto.specs.Message.{Content, VARINT, I64, LEN, I32, Entry, Message}
 use Rattle.orc_proto.specs.Laws.{all_read}
 use Rattle.orc_tail.specs.declared.fault.TailFault.{TailFault}
 use Rattle.orc_tail.specs.declared.fault.TailFault.TheVariants.{Wire}
@@ -10,16 +10,16 @@ use Rattle.orc_tail.specs.declared.stripe.Stripe.{Stripe}
 use Rattle.orc_tail.specs.declared.stream.Stream.{Stream}
 use Rattle.orc_tail.specs.declared.encoding.Encoding.{Encoding}
 use Rattle.orc_tail.specs.Reading.{◌>>=◌, fields_from}
-use Rattle.orc_tail.specs.Messages.{stripe_number, stripe_value, stripe_field, stripe_of, stream_number, stream_value, stream_field, stream_of, encoding_value, encoding_field, encoding_of, type_of, type_field, footer_of, footer_field, stripe_footer_of, stripe_footer_field}
-use Rattle.orc_proto.specs.Laws.{MessagesAreRead}
+use Rattle.orc_tail.specs.Messages.{stripe_number, stripe_value, stripe_field, stripe_of, stream_number, stream_value, stream_field, stream_of, encoding_value, encoding_field, encoding_of, type_of, type_field, footer_of, footer_field, stripe_footer_of, stripe_footer_field, postscript_of, postscript_field}
+use Rattle.orc_proto.specs.Laws.{MessagesAreRead, ReadIsMessage}
 use Rattle.orc_proto.specs.Reading.{fields_of}
-use Rattle.orc_tail.specs.Laws.{number_in, varints_of, last_or, FirstBroken, StripesAreRead, StreamsAreRead, EncodingsAreRead, TypesBreakFirst, FootersBreakFirst, StripeFootersBreakFirst}
+use Rattle.orc_tail.specs.Laws.{number_in, varints_of, last_or, FirstBroken, AreMessages, StripesAreRead, StreamsAreRead, EncodingsAreRead, TypesBreakFirst, FootersBreakFirst, StripeFootersBreakFirst}
 use Rattle.orc_tail.specs.Laws.FirstBroken.{wire, inside}
 
 abbrev pub read_as : (S : Type 0) → S → Result S TailFault
 read_as S s = Ok s
 
-abbrev refused_by : (S : Type 0) → TailFault → Result S TailFault
+abbrev pub refused_by : (S : Type 0) → TailFault → Result S TailFault
 refused_by S fault = Err fault
 
 -- a value that a varint of its field replaces
@@ -169,3 +169,36 @@ footers_break_first bytes fault same = first_broken footer_field (record { strip
 pub stripe_footers_break_first : StripeFootersBreakFirst
 unfolding stripe_footer_of
 stripe_footers_break_first bytes fault same = first_broken stripe_footer_field (record { streams = []; encodings = [] }) (fields_of bytes) fault same
+
+-- ---- what is read is a message
+
+pub whole_items : {S : Type 0} (step : S → Entry → Result S TailFault) (s t : S) (items : List (Result Entry WireFault)) → fields_from step s items ≡ Ok t
+    → (fields : List Entry) × (items ≡ all_read fields)
+whole_items step s t [] same = ([], refl)
+whole_items {S} step s t (Err e ∷ items) same = absurd (let no : refused_by S (Wire e) ≡ read_as S t = same in cc)
+whole_items {S} step s t (Ok field ∷ items) same =
+    elim (step s field) as (λ r. (r >>= λ u. fields_from step u items) ≡ Ok t → (fields : List Entry) × (Ok field ∷ items ≡ all_read fields)) [
+      | Ok u ↦ λ later. let w = whole_items step u t items later in
+          (field ∷ w.0, ap (λ (l : List (Result Entry WireFault)). Ok field ∷ l) w.1)
+      | Err e ↦ λ fails. absurd (let no : refused_by S e ≡ read_as S t = fails in cc)
+    ] same
+
+pub read_is_message : {S : Type 0} → ReadIsMessage → (step : S → Entry → Result S TailFault) (s t : S) (bytes : List ℕ)
+    → fields_from step s (fields_of bytes) ≡ Ok t → (fields : List Entry) × Message bytes fields
+read_is_message only step s t bytes same = let w = whole_items step s t (fields_of bytes) same in (w.0, only bytes w.0 w.1)
+
+pub stripes_are_messages : ReadIsMessage → AreMessages stripe_of
+unfolding stripe_of
+stripes_are_messages only bytes t same = read_is_message only stripe_field _ t bytes same
+
+pub streams_are_messages : ReadIsMessage → AreMessages stream_of
+unfolding stream_of
+streams_are_messages only bytes t same = read_is_message only stream_field _ t bytes same
+
+pub encodings_are_messages : ReadIsMessage → AreMessages encoding_of
+unfolding encoding_of
+encodings_are_messages only bytes t same = read_is_message only encoding_field _ t bytes same
+
+pub postscripts_are_messages : ReadIsMessage → AreMessages postscript_of
+unfolding postscript_of
+postscripts_are_messages only bytes t same = read_is_message only postscript_field _ t bytes same

@@ -1,14 +1,17 @@
 -- The messages of tails and stripe footers in the words of the wire format: which of a field's values counts, and which fault.
 -- Source: the protobuf wire format, "Last One Wins" and "Packed Repeated Fields".
-use Rattle.std.specs.Prelude.{◌≡◌, ℕ, Bool, true, false, List, [], ◌∷◌, ◌++◌, Result, Ok, Err, ◌==◌, if◌then◌else◌, bytes_eq}
+use Rattle.std.specs.Prelude.{◌≡◌, ◌↔◌, ℕ, Bool, true, false, List, [], ◌∷◌, ◌++◌, Result, Ok, Err, ◌==◌, if◌then◌else◌, bytes_eq}
 use Rattle.orc_proto.specs.declared.fault.WireFault.{WireFault}
 use Rattle.orc_proto.specs.Message.{Content, VARINT, I64, LEN, I32, Entry, Message, PackedNumbers}
 use Rattle.orc_proto.specs.Reading.{fields_of}
 use Rattle.orc_proto.specs.Laws.{all_read}
 use Rattle.orc_tail.specs.declared.fault.TailFault.{TailFault}
 use Rattle.orc_tail.specs.declared.fault.TailFault.TheVariants.{Wire}
+use Rattle.orc_tail.specs.declared.stripe.Stripe.{Stripe}
+use Rattle.orc_tail.specs.declared.stream.Stream.{Stream}
+use Rattle.orc_tail.specs.declared.encoding.Encoding.{Encoding}
 use Rattle.orc_tail.specs.Reading.{fields_from}
-use Rattle.orc_tail.specs.Messages.{magic, postscript_of, stripe_of, stream_of, encoding_of, type_of, type_field, footer_of, footer_field, stripe_footer_of, stripe_footer_field}
+use Rattle.orc_tail.specs.Messages.{TypeMessage, magic, postscript_of, stripe_of, stream_of, encoding_of, type_of, type_field, footer_of, footer_field, stripe_footer_of, stripe_footer_field}
 
 -- the number of a field that is a varint and has this number
 abbrev pub number_in : ℕ → ℕ → Content → List ℕ
@@ -76,6 +79,21 @@ abbrev pub TypesAreRead : Type 0
 TypesAreRead = (bytes : List ℕ) (fields : List Entry) (numbers : List ℕ) → Message bytes fields → Repeated 2 fields numbers
     → type_of bytes ≡ Ok (record { kind = singular 1 fields; subtypes = numbers; names = bytes_of 3 fields })
 
+-- a type, in full: bytes that are read as one have such fields
+pub record IsType (bytes : List ℕ) (t : TypeMessage) : Type 0 where
+  pub fields : List Entry
+  pub message : Message bytes fields
+  pub kind : t.kind ≡ singular 1 fields
+  pub subtypes : Repeated 2 fields t.subtypes
+  pub names : t.names ≡ bytes_of 3 fields
+
+abbrev pub TypesAreMessages : Type 0
+TypesAreMessages = (bytes : List ℕ) (t : TypeMessage) → type_of bytes ≡ Ok t → IsType bytes t
+
+-- bytes that are read are a message
+abbrev pub AreMessages : {X : Type 0} → (List ℕ → Result X TailFault) → Type 0
+AreMessages {X} read = (bytes : List ℕ) (x : X) → read bytes ≡ Ok x → (fields : List Entry) × Message bytes fields
+
 abbrev pub StripesAreRead : Type 0
 StripesAreRead = (bytes : List ℕ) (fields : List Entry) → Message bytes fields
     → stripe_of bytes ≡ Ok (record {
@@ -93,6 +111,33 @@ StreamsAreRead = (bytes : List ℕ) (fields : List Entry) → Message bytes fiel
 abbrev pub EncodingsAreRead : Type 0
 EncodingsAreRead = (bytes : List ℕ) (fields : List Entry) → Message bytes fields
     → encoding_of bytes ≡ Ok (record { kind = singular 1 fields; dictionary_size = singular 2 fields })
+
+-- what a repeated field holds: the bytes of each time that it stands there, read on their own, in order
+abbrev pub AreReadAs : {X : Type 0} → (List ℕ → Result X TailFault) → List (List ℕ) → List X → Type 0
+AreReadAs read [] xs = xs ≡ []
+AreReadAs {X} read (bytes ∷ others) xs = (x : X) × (rest : List X) × (read bytes ≡ Ok x) × AreReadAs read others rest × (xs ≡ x ∷ rest)
+
+-- A footer: its stripes are what its field 3 holds, and its types what its field 4 does.
+pub record IsFooter (bytes : List ℕ) (stripes : List Stripe) (types : List TypeMessage) : Type 0 where
+  pub fields : List Entry
+  pub message : Message bytes fields
+  pub its_stripes : AreReadAs stripe_of (bytes_of 3 fields) stripes
+  pub its_types : AreReadAs type_of (bytes_of 4 fields) types
+
+-- A stripe's footer: its streams are what its field 1 holds, and its encodings what its field 2 does.
+pub record IsStripeFooter (bytes : List ℕ) (streams : List Stream) (encodings : List Encoding) : Type 0 where
+  pub fields : List Entry
+  pub message : Message bytes fields
+  pub its_streams : AreReadAs stream_of (bytes_of 1 fields) streams
+  pub its_encodings : AreReadAs encoding_of (bytes_of 2 fields) encodings
+
+abbrev pub FootersAreRead : Type 0
+FootersAreRead = (bytes : List ℕ) (stripes : List Stripe) (types : List TypeMessage)
+    → (footer_of bytes ≡ Ok (record { stripes = stripes; types = types })) ↔ IsFooter bytes stripes types
+
+abbrev pub StripeFootersAreRead : Type 0
+StripeFootersAreRead = (bytes : List ℕ) (streams : List Stream) (encodings : List Encoding)
+    → (stripe_footer_of bytes ≡ Ok (record { streams = streams; encodings = encodings })) ↔ IsStripeFooter bytes streams encodings
 
 -- The first broken message by its offset: the fields in front of it were read, and then the bytes are no message, or what a
 -- field holds is refused.
