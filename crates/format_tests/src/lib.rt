@@ -2,9 +2,9 @@
 #![tactic(auto)]
 
 #[cfg(test)]
-mod disk;
-#[cfg(test)]
 mod messages;
+#[cfg(test)]
+mod reading;
 #[cfg(test)]
 mod stripe_footers;
 #[cfg(test)]

@@ -1,9 +1,10 @@
 //! Stripe footers, and each condition that refuses one.
-use crate::disk::{FILE, disk_of};
+use crate::reading::store_of;
 use orc_proto::WireFault;
 use orc_tail::{StreamRange, Stripe, TailFault, read_stripe_footer, stream_of};
-use outside::{Failed, FileRef};
+use outside::{Failed, FileRef, RealWorld, StoreReader};
 use std::alloc::Global;
+use test_stores::WORKED_FILE;
 
 /// The worked file.
 const WHOLE: FileRef = FileRef { number: 0, len: 68 };
@@ -26,12 +27,13 @@ const STREAM: StreamRange = StreamRange {
 /// Whether the whole file's stripe has its one stream, none of another kind or column, and two encodings, and its footer
 /// is one read.
 fn footer_is_read(alloc: Global) -> Option<bool> {
-    let mut reader = disk_of(alloc, &FILE);
+    let mut store = store_of(alloc, &WORKED_FILE);
+    let mut reader = StoreReader::<RealWorld, _>::new(&mut store);
     let footer = read_stripe_footer(alloc, &mut reader, WHOLE, &STRIPE).ok()?;
     let streams = stream_of(&footer, 1, 1) == Some(STREAM);
     let no_others = stream_of(&footer, 0, 1).is_none() && stream_of(&footer, 1, 0).is_none();
     let encodings = footer.encodings.as_slice().len() == 2;
-    Some(streams && no_others && encodings && reader.reads.as_slice() == [(6, 16)].as_slice())
+    Some(streams && no_others && encodings && store.reads.as_slice() == [(6, 16)].as_slice())
 }
 
 #[test]
@@ -62,7 +64,8 @@ fn footer_fault(alloc: Global, footer: &[u8]) -> Option<TailFault> {
     let mut bytes = Vec::new(alloc);
     bytes.extend_from_slice(b"ab").ok()?;
     bytes.extend_from_slice(footer).ok()?;
-    let mut reader = disk_of(alloc, bytes.as_slice());
+    let mut store = store_of(alloc, bytes.as_slice());
+    let mut reader = StoreReader::<RealWorld, _>::new(&mut store);
     read_stripe_footer(alloc, &mut reader, FileRef { number: 0, len: 6 }, &stripe).err()
 }
 

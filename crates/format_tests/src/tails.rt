@@ -1,11 +1,12 @@
 //! Tails of files, each condition that refuses one, and how the fields of a footer are read.
 ghost use Rattle.std.specs.Prelude.{◌≡◌};
 
-use crate::disk::{FILE, disk_of, file_of};
+use crate::reading::{read_as, store_of, tail_of};
 use orc_proto::{WireFault, varint_len, write_varint};
-use orc_tail::{Stripe, TailFault, column_named, read_tail};
+use orc_tail::{Stripe, TailFault, column_named};
 use outside::FileRef;
 use std::alloc::Global;
+use test_stores::WORKED_FILE;
 
 const STRIPE: Stripe = Stripe {
     at: 3,
@@ -17,12 +18,12 @@ const STRIPE: Stripe = Stripe {
 
 /// Whether the whole file has its one stripe and its one column, and is read in two reads.
 fn whole_file_is_read(alloc: Global) -> Option<bool> {
-    let mut reader = disk_of(alloc, &FILE);
-    let tail = read_tail(alloc, &mut reader, file_of(&FILE)).ok()?;
+    let mut store = store_of(alloc, &WORKED_FILE);
+    let tail = tail_of(alloc, &mut store).ok()?;
     let column = column_named(&tail, "x")?;
     let columns = column.number == 1 && column.kind == 4 && column_named(&tail, "y").is_none();
     let stripes = tail.stripes.as_slice() == [STRIPE].as_slice();
-    Some(columns && stripes && reader.reads.as_slice() == [(0, 68), (22, 28)].as_slice())
+    Some(columns && stripes && store.reads.as_slice() == [(0, 68), (22, 28)].as_slice())
 }
 
 #[test]
@@ -32,8 +33,7 @@ fn a_whole_file_is_read(rt: HostRuntime) {
 
 /// Why a file's tail is refused.
 fn tail_fault(alloc: Global, bytes: &[u8]) -> Option<TailFault> {
-    let mut reader = disk_of(alloc, bytes);
-    read_tail(alloc, &mut reader, file_of(bytes)).err()
+    tail_of(alloc, &mut store_of(alloc, bytes)).err()
 }
 
 const TRUNCATED: TailFault = TailFault::Wire(WireFault::Truncated(0));
@@ -83,7 +83,7 @@ fn long_fault(alloc: Global) -> Option<TailFault> {
         number: 0,
         len: 4_294_967_296,
     };
-    read_tail(alloc, &mut disk_of(alloc, b""), long).err()
+    read_as(alloc, &mut store_of(alloc, b""), long).err()
 }
 
 #[test]
@@ -96,8 +96,7 @@ fn each_condition_refuses_a_tail(rt: HostRuntime) {
 
 /// The number and the kind of a file's column `x`.
 fn column_x(alloc: Global, bytes: &[u8]) -> Option<(u32, u64)> {
-    let mut reader = disk_of(alloc, bytes);
-    let tail = read_tail(alloc, &mut reader, file_of(bytes)).ok()?;
+    let tail = tail_of(alloc, &mut store_of(alloc, bytes)).ok()?;
     let column = column_named(&tail, "x")?;
     Some((column.number, column.kind))
 }
