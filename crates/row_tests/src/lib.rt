@@ -6,6 +6,4 @@ mod direct_reads;
 #[cfg(test)]
 mod kept_rows;
 #[cfg(test)]
-mod one_file;
-#[cfg(test)]
 mod walks;

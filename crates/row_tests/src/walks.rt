@@ -2,14 +2,14 @@
 ghost use Rattle.std.specs.Prelude.{◌≡◌, ◌≤◌, length};
 
 use crate::kept_rows::{KeptRows, NULL};
-use crate::one_file::OneFile;
 use orc_columns::ColumnFault;
 use orc_rows::RowsFault;
 use orc_streams::{DirectReader, ReadColumn, StoredStreams};
 use orc_tail::read_tail;
 use orc_walk::{Stop, walk_stripes};
-use outside::{FileRef, RealWorld};
+use outside::RealWorld;
 use std::alloc::Global;
+use test_stores::OneFile;
 
 /// How a walk ended, where it wasn't for want of memory or by a failed read.
 #[derive(Drop)]
@@ -28,10 +28,7 @@ fn walk(
     requires few { length columns.now ≤ 16 }
     requires same { kept.old.columns.now ≡ columns.now }
 {
-    let file = FileRef {
-        number: 0,
-        len: store.bytes.len() as u64,
-    };
+    let file = store.file();
     let mut streams = StoredStreams::new(alloc);
     let mut reader = DirectReader::<RealWorld, _>::new(store, &mut streams);
     let tail = read_tail(alloc, &mut reader, file).ok()?;
@@ -73,10 +70,7 @@ fn walked(
     requires { length columns.now ≤ 16 }
 {
     let bytes = hex::decode(alloc, digits).ok()?;
-    let mut store = OneFile {
-        bytes: bytes.as_slice(),
-        reads: Vec::new(alloc),
-    };
+    let mut store = OneFile::new(alloc, bytes.as_slice(), usize::MAX);
     let mut kept = KeptRows {
         columns,
         numbers: Vec::new(alloc),

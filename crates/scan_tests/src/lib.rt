@@ -4,7 +4,7 @@
 #[cfg(test)]
 mod files;
 #[cfg(test)]
-mod one_file;
+mod one_scan;
 #[cfg(test)]
 mod outcomes;
 #[cfg(test)]

@@ -3,7 +3,7 @@ use crate::files::{
     BOTH_BREAK, CLAIMS, CLAIMS_MORE, COLUMN_AND_FOOTER, COMPRESSED, FIVE_KINDS, FOOTERS_BREAK,
     GREATEST, LONG_STRIPES, SECOND_BREAKS, SUM_AND_BREAK, TWO_NAMES,
 };
-use crate::one_file::scanned;
+use crate::one_scan::scanned;
 use std::alloc::Global;
 
 /// Plans over the file of five kinds, each behind `$`, and below each what is printed.

@@ -1,6 +1,6 @@
 //! Which ranges of a file a scan reads, and a read that fails.
 use crate::files::{FIVE_KINDS, LONG_STRIPES, TWO_NAMES};
-use crate::one_file::scanned;
+use crate::one_scan::scanned;
 use std::alloc::Global;
 
 /// A file, a scan of it, and its reads: the end, the file's footer, and for each stripe its footer and the streams of each column, by
