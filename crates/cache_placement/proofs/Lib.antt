@@ -1,3 +1,4 @@
+pub mod AskedArenas
 pub mod Blocks
 pub mod Walks
 pub mod Showing

@@ -1,4 +1,5 @@
 pub mod Free
+pub mod Asking
 pub mod Publications
 pub mod Exact
 pub mod Placements

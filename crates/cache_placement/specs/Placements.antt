@@ -22,6 +22,7 @@ use Rattle.cache_lookup.specs.Trails.{Among, events, last_left, last_load}
 use Rattle.cache_placement.specs.declared.why.Placed.{Placed}
 use Rattle.cache_placement.specs.declared.why.Placed.TheVariants.{Filled, Bypass}
 use Rattle.cache_placement.specs.declared.why.Why.TheVariants.{NoRoom, Raced, Busy, SetFull, PolicyOut}
+use Rattle.cache_placement.specs.Asking.{asked_by}
 use Rattle.cache_placement.specs.Exact.{AreStates, IsExact}
 use Rattle.cache_placement.specs.Free.{IsFirstFree, NoneFree}
 use Rattle.cache_placement.specs.Publications.{publications}
@@ -98,6 +99,7 @@ HoldsPlaced pool seat key (Bypass why) = Unit {0}
 
 -- The seat placed a range by these steps, with that answer. A grant makes the answer that the range is filled, or that the header
 -- was lost, and an opening that it is filled; one buffer is published where it is, and else none. No header is evicted or released.
+-- No other arenas are asked than those from one on and below another, and where a way was seen free the first of them is asked first.
 -- If the seat knows the words, and the states are theirs, the answer follows from them.
 pub record IsPlacement (files : Option Files) (g : Geometry) (id : ℕ) (key : Key) (order first : ℕ) (states : List ℕ) (from until : ℕ)
     (ss : List WordStep) (old new : View) (placed : Placed) : Type 0 where
@@ -108,6 +110,9 @@ pub record IsPlacement (files : Option Files) (g : Geometry) (id : ℕ) (key : K
   pub opened : (header : ℕ) (b : Block) (cells : List ℕ) → Among (Opened header b cells) ss → IsFilled placed
   pub only : (s : WordStep) → Among s ss → IsPlaceStep s
   pub published : publications ss ≡ made_by placed
+  pub inside : (s : WordStep) (arena : ℕ) → Among s ss → asked_by s ≡ Some arena → (from ≤ arena) × (arena < until)
+  pub asked : from < until → (way : ℕ) → way < 8 → slice_index states way ≡ 8
+      → (found : ℕ) × (rest : List WordStep) × (ss ≡ Looked (Arena from) found ∷ rest)
   pub exact : (words : List ℕ) → old.known ≡ Some words → AreStates g words first states →
       IsExact g order words first states from until new placed
 

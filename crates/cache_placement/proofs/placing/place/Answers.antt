@@ -10,6 +10,7 @@ use Rattle.buffer_pool.specs.Pools.{seat_id, sizes_of, view}
 use Rattle.cache_placement.specs.declared.why.Placed.{Placed}
 use Rattle.cache_placement.specs.Placements.{IsPlacement}
 use Rattle.cache_placement.specs.Steps.{Places}
+use Rattle.cache_placement.proofs.AskedArenas.{place_asked, place_inside}
 use Rattle.cache_placement.proofs.Blocks.{kept_at_start}
 use Rattle.cache_placement.proofs.Knowing.{place_exact}
 use Rattle.cache_placement.proofs.Showing.{place_granted, place_only, place_opened, place_publishes, place_tells}
@@ -29,6 +30,8 @@ placed files g id key order first states from until v w r few inside marks p =
         opened = place_opened g key order first states from until p.0 r p.2;
         only = place_only g key order first states from until p.0 r p.2;
         published = place_publishes g key order first states from until p.0 r p.2;
+        inside = λ s arena there is. place_inside g key order first states from until p.0 r p.2 s arena there is;
+        asked = λ less way inside free. place_asked g key order first states from until less way inside free p.0 r p.2;
         exact = λ words known are. place_exact files g id key order words until few first states from are v w p.0 r known p.1 p.2;
       },
     )
