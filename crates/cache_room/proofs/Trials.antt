@@ -1,19 +1,23 @@
 -- One header more was tried.
-use Rattle.std.proofs.Common.{◌≡◌, ◌≢◌, ℕ, ◌+◌, ◌-◌, ◌^◌, ◌<◌, ◌≤◌, min, Bool, true, false, List, [], ◌++◌, length, refl, sym, ap, ◌∙◌, subst, inl, inr, arith}
+use Rattle.std.proofs.Common.{◌≡◌, ◌≢◌, ℕ, zero, suc, ◌+◌, ◌-◌, ◌/◌, ◌^◌, ◌<◌, ◌≤◌, min, Bool, true, false, List, [], ◌∷◌, ◌++◌, length, refl, sym, ap, ◌∙◌, subst, inl, inr, arith}
 use Rattle.std.specs.Prelude.{Option, None, Some, Ok, Err, ◌⊎◌, replicate, slice_index, slice_index_or, slice_set}
 use Rattle.std.proofs.lemmas.Bool.{cases_eq, cases_lt}
-use Rattle.std.proofs.lemmas.List.{get_or-replicate, get_or-set_other, get_or-set_same, get_or_past, length-replicate}
+use Rattle.std.proofs.lemmas.List.{append_assoc, append-nil, get_or-replicate, get_or-set_other, get_or-set_same, get_or_past, length-replicate}
 use Rattle.lrfu_policy.specs.declared.rank.Rank.{Rank}
 use Rattle.lrfu_policy.specs.Laws.{ForgettingAddsNone, VictimsRunOut}
 use Rattle.lrfu_policy.specs.Policy.{Ranking, with_entry}
+use Rattle.lrfu_policy.specs.declared.entry.Entry.{Entry}
+use Rattle.lrfu_policy.specs.Rank.{rank_at}
+use Rattle.lrfu_policy.specs.Victim as victim
 use Rattle.lrfu_policy.specs.Victim.{Among, IsLeast, above_count}
 use Rattle.buffer_word.specs.declared.key_word.Key.{Key}
 use Rattle.pool_model.specs.declared.block.Block.{Block}
 use Rattle.pool_model.specs.Content.{Files}
 use Rattle.pool_rule.specs.declared.geometry.Geometry.{Geometry}
+use Rattle.pool_rule.specs.declared.geometry.WordName.TheVariants.{Arena}
 use Rattle.pool_rule.specs.declared.view.View.{View}
 use Rattle.pool_rule.specs.declared.word_step.WordStep.{WordStep}
-use Rattle.pool_rule.specs.declared.word_step.WordStep.TheVariants.{HeaderReleased}
+use Rattle.pool_rule.specs.declared.word_step.WordStep.TheVariants.{HeaderReleased, Looked}
 use Rattle.pool_rule.specs.Layout.{header_word, headers_of}
 use Rattle.pool_rule.specs.Seats.{granted_at, mark_at}
 use Rattle.buffer_pool.specs.declared.fault.Held.{Held}
@@ -21,15 +25,20 @@ use Rattle.buffer_pool.specs.Made.{AreMade}
 use Rattle.cache_consult.specs.Consults.{Consults}
 use Rattle.cache_consult.specs.Leaving.{consult_only}
 use Rattle.cache_eviction.specs.Evictions.{HeldSteps, OutSteps, Tries}
+use Rattle.cache_lookup.specs.Trails as Lists
 use Rattle.cache_lookup.specs.Trails.{events}
 use Rattle.cache_lookup.specs.TrailLaws.{among_back}
 use Rattle.cache_placement.specs.declared.why.Placed.{Placed}
 use Rattle.cache_placement.specs.declared.why.Placed.TheVariants.{Filled, Bypass}
 use Rattle.cache_placement.specs.declared.why.Why.TheVariants.{NoRoom, Raced, Busy, SetFull, PolicyOut}
-use Rattle.cache_placement.specs.Placements.{IsFilled, IsLost, IsPlacement}
+use Rattle.cache_placement.specs.Asking.{asked_by}
+use Rattle.cache_placement.specs.Free.{IsOrder}
+use Rattle.cache_placement.specs.Placements.{HasNoRoom, IsFilled, IsLost, IsPlacement}
 use Rattle.cache_room.specs.declared.wanted.Wanted.{Wanted}
 use Rattle.cache_room.specs.Quiet.{AreKnown, IsQuiet, consult_releases, consult_touches, quiet_consult, quiet_held, quiet_none, quiet_out, quiet_then}
-use Rattle.cache_room.specs.Rooms.{HeadersTried, IfNoRoom, IsSetTried, IsWayFreed, MakesRoom, RoomLeft, WaysTried, counted, unless_full}
+use Rattle.cache_room.specs.Rooms.{HasFree, HeadersTried, IfNoRoom, IsSetTried, IsWayFreed, MakesByTries, MakesRoom, MakesWhereFull, RoomLeft, WaysTried, counted, unless_full}
+use Rattle.cache_room.specs.Seeking.{AsksOwn, IsSought, SeeksRoom}
+use Rattle.cache_room.specs.SeekingLaws.{asks_then, consult_asks, held_asks, out_asks, seeks_only}
 use Rattle.cache_room.specs.Touchings.{place_touchings}
 use Rattle.cache_room.specs.Tried.{IsTried, last_saw, releases}
 use Rattle.cache_room.specs.TriedLaws.{held_end, held_releases, out_end, out_released, out_releases, place_releases, releases-append, saw_away, saw_here, touch_front, tried_back, tried_front, tried_over}
@@ -165,11 +174,12 @@ module _ (files : Option Files) (g : Geometry) (id : ℕ) (wanted : Wanted) (sta
         quiet = quiet_then files g id wanted.key start v w c.ss ts c.quiet more;
         touched = λ h less. touch_front h c.ss ts (c.touched h less);
         count = omega (arith, sum, was, is);
+        asks = asks_then c.ss ts c.asks (held_asks header ts held.word t.2);
         ended = headers_ended g tried c.ss ts header c.ended (tried_over header c.ss ts (c.touched header below) (held_end header ts held.word t.2));
       }
 
   -- the buffer went, and the range was placed where its block was, or there is no room all the same
-  module _ (b : Block) (from until evicted' : ℕ) (ts us : List WordStep) (v u w : View) (c : HeadersTried files g id wanted.key start tried evicted v) (out : OutSteps header ts b) (made : AreMade files g id ts v u) (same_marks : SameMarks v u) (same_places : SamePlaces v u) (count : evicted' ≡ min (evicted + 1) (2 ^ 32 - 1)) where
+  module _ (b : Block) (from until evicted' : ℕ) (ts us : List WordStep) (v u w : View) (c : HeadersTried files g id wanted.key start tried evicted v) (out : OutSteps header ts b) (made : AreMade files g id ts v u) (same_marks : SameMarks v u) (same_places : SamePlaces v u) (count : evicted' ≡ min (evicted + 1) (2 ^ 32 - 1)) (at : from ≡ b.place / 64) (one : until ≡ from + 1) (free : HasFree wanted) where
     before : IsQuiet files g id wanted.key start (c.ss ++ ts) u
     before = quiet_then files g id wanted.key start v u c.ss ts c.quiet (quiet_out files g id wanted.key header ts b v u out made same_marks same_places)
 
@@ -180,9 +190,28 @@ module _ (files : Option Files) (g : Geometry) (id : ℕ) (wanted : Wanted) (sta
         let was = c.count in
         omega (arith, sum, was, is, count)
 
-    makes : (placed : Placed) → IsPlacement files g id wanted.key wanted.order wanted.first wanted.states from until us u w placed → ((P : Type 0) → IfNoRoom placed P) → MakesRoom files g id wanted start w evicted' placed
-    makes placed p free =
-        record { ss = c.ss ++ ts; ts = us; mid = u; from = from; until = until; quiet = before; places = p; count = counts; tried = free _ }
+    -- the arena of the block is asked, and no other
+    own_asked : (placed : Placed) → IsPlacement files g id wanted.key wanted.order wanted.first wanted.states from until us u w placed → AsksOwn ((c.ss ++ ts) ++ us)
+    own_asked placed p =
+        let P : ℕ → Type 0 = λ n. (found : ℕ) × (rest : List WordStep) × (us ≡ Looked (Arena n) found ∷ rest) in
+        let asked = subst P at (p.asked (omega (arith, one)) free.0 free.1 free.2) in
+        let inside : (s : WordStep) (arena : ℕ) → Lists.Among s us → asked_by s ≡ Some arena → b.place / 64 ≡ arena = λ s arena there is.
+        let bounds = p.inside s arena there is in
+        let low = bounds.0 in
+        let high = bounds.1 in
+        sym at ∙ omega (arith, low, high, one) in
+        subst AsksOwn (sym (append_assoc c.ss ts us)) (asks_then c.ss (ts ++ us) c.asks (out_asks header ts us b out p.only inside asked))
+
+    by_tries : (placed : Placed) → IsPlacement files g id wanted.key wanted.order wanted.first wanted.states from until us u w placed → IsSought g ((c.ss ++ ts) ++ us)
+    by_tries placed p =
+        let all : List WordStep = (c.ss ++ ts) ++ us in
+        record { trying = all; end = []; parts = sym (append-nil all); asks = own_asked placed p; kept = refl; last = inl (λ s gone. absurd gone) }
+
+    makes : (placed : Placed) → IsPlacement files g id wanted.key wanted.order wanted.first wanted.states from until us u w placed → ((P : Type 0) → IfNoRoom placed P) → MakesByTries files g id wanted start w evicted' placed
+    makes placed p if_none = (
+      record { ss = c.ss ++ ts; ts = us; mid = u; from = from; until = until; quiet = before; places = p; count = counts; tried = if_none _ },
+      by_tries placed p,
+    )
 
     no_grant : (words : List ℕ) → IsFilled (Bypass (NoRoom words)) ⊎ IsLost us (Bypass (NoRoom words)) → ⊥
     no_grant words h = elim h [ inl not ↦ not | inr lost ↦ (let e : Bypass (NoRoom words) ≡ Bypass (Raced lost.1) = lost.2 in let clash : ⊥ = cc in clash) ]
@@ -200,6 +229,7 @@ module _ (files : Option Files) (g : Geometry) (id : ℕ) (wanted : Wanted) (sta
           quiet = quiet_then files g id wanted.key start u w (c.ss ++ ts) us before after;
           touched = λ h less. touch_front h (c.ss ++ ts) us (touch_front h c.ss ts (c.touched h less));
           count = omega (arith, sum, none, so_far);
+          asks = own_asked (Bypass (NoRoom words)) p;
           ended = λ h marked.
               tried_front h (c.ss ++ ts) us (headers_ended g tried c.ss ts header c.ended (tried_over header c.ss ts (c.touched header below) (out_end header ts b out)) h marked);
         }
@@ -221,24 +251,35 @@ module _ (files : Option Files) (g : Geometry) (id : ℕ) (key : Key) (start : V
         quiet = quiet_consult files g id key start known (headers_of g) p q h.0 v h.2 h.1;
         touched = consult_touches (headers_of g) p q h.0 h.2;
         count = omega (arith, is);
+        asks = consult_asks h.0 (consult_only (headers_of g) p q h.0 h.2);
         ended = λ other marked. absurd (let e : true ≡ false = sym marked ∙ none other in let clash : ⊥ = cc in clash);
       }
 
 -- all headers were tried, and then all arenas were asked
-pub asked_all : (files : Option Files) (g : Geometry) (id id' : ℕ) (wanted : Wanted) (start : View) (tried : List Bool) (evicted arenas : ℕ) (v w : View) (placed : Placed) → id' ≡ id → arenas ≡ g.arenas → ((h : ℕ) → h < headers_of g → slice_index_or tried h false ≡ true) → HeadersTried files g id wanted.key start tried evicted v → ((us : List WordStep) × IsPlacement files g id' wanted.key wanted.order wanted.first wanted.states 0 arenas us v w placed) → MakesRoom files g id wanted start w evicted placed
+pub asked_all : (files : Option Files) (g : Geometry) (id id' : ℕ) (wanted : Wanted) (start : View) (tried : List Bool) (evicted arenas : ℕ) (v w : View) (placed : Placed) → id' ≡ id → arenas ≡ g.arenas → ((h : ℕ) → h < headers_of g → slice_index_or tried h false ≡ true) → HeadersTried files g id wanted.key start tried evicted v → ((us : List WordStep) × IsPlacement files g id' wanted.key wanted.order wanted.first wanted.states 0 arenas us v w placed) → MakesByTries files g id wanted start w evicted placed
 asked_all files g id id' wanted start tried evicted arenas v w placed same is all c p =
     let P : ℕ × ℕ → Type 0 = λ z. IsPlacement files g z.0 wanted.key wanted.order wanted.first wanted.states 0 z.1 p.0 v w placed in
-    record {
-      ss = c.ss;
-      ts = p.0;
-      mid = v;
-      from = 0;
-      until = g.arenas;
-      quiet = c.quiet;
-      places = subst P (λ i. (same i, is i)) p.1;
-      count = c.count;
-      tried = if_all placed (refl, refl, λ h lt. c.ended h (all h lt));
-    }
+    let places = subst P (λ i. (same i, is i)) p.1 in (
+      record {
+        ss = c.ss;
+        ts = p.0;
+        mid = v;
+        from = 0;
+        until = g.arenas;
+        quiet = c.quiet;
+        places = places;
+        count = c.count;
+        tried = if_all placed (refl, refl, λ h lt. c.ended h (all h lt));
+      },
+      record {
+        trying = c.ss;
+        end = p.0;
+        parts = refl;
+        asks = c.asks;
+        kept = place_releases p.0 places.only;
+        last = inr (λ h lt. c.ended h (all h lt));
+      },
+    )
   where
     if_all : {P : Type 0} (r : Placed) → P → IfNoRoom r P
     if_all (Filled pin) p = tt
@@ -249,6 +290,17 @@ asked_all files g id id' wanted start tried evicted arenas v w placed same is al
     if_all (Bypass PolicyOut) p = tt
 
 -- ---- the walk over the victims
+
+one_counted : (is : Bool) → victim.counted is ≤ 1
+one_counted true = omega arith
+one_counted false = omega arith
+
+pub few_above : (entries : List (Option Entry)) (after : Option Rank) (n : ℕ) → above_count entries after n ≤ n
+few_above entries after zero = omega arith
+few_above entries after (suc n) =
+    let rest = few_above entries after n in
+    let one = one_counted (victim.is_left after (rank_at entries n)) in
+    omega (arith, rest, one)
 
 pub walks_on : VictimsRunOut → ForgettingAddsNone → (p q : Ranking) (after : Option Rank) (r : Rank) → IsLeast (Among 0 (length p.entries)) p.entries after (Some r) → r.header < length p.entries → length q.entries ≡ length p.entries → (q ≡ p) ⊎ (q ≡ with_entry r.header None p) → above_count q.entries (Some r) (length q.entries) < above_count p.entries after (length p.entries)
 walks_on falls forgets p q after r least lt len is =
@@ -268,20 +320,22 @@ walks_on falls forgets p q after r least lt len is =
 -- ---- a placement, and room that is made after it
 
 module _ (files : Option Files) (g : Geometry) (id : ℕ) (wanted : Wanted) (from until : ℕ) (us : List WordStep) (v w : View) where
-  placed_at_once : (placed : Placed) → IsPlacement files g id wanted.key wanted.order wanted.first wanted.states from until us v w placed → ((P : Type 0) → IfNoRoom placed P) → MakesRoom files g id wanted v w 0 placed
-  placed_at_once placed p free =
-      record { ss = []; ts = us; mid = v; from = from; until = until; quiet = quiet_none files g id wanted.key v; places = p; count = refl; tried = free _ }
+  placed_at_once : (placed : Placed) → IsPlacement files g id wanted.key wanted.order wanted.first wanted.states from until us v w placed → ((P : Type 0) → IfNoRoom placed P) → MakesWhereFull files g id wanted v w 0 placed
+  placed_at_once placed p free = (
+    record { ss = []; ts = us; mid = v; from = from; until = until; quiet = quiet_none files g id wanted.key v; places = p; count = refl; tried = free _ },
+    seeks_only g wanted.key.len us (place_releases us p.only),
+  )
 
   not_full : (x : Placed) → Some x ≢ None
   not_full x e = let clash : ⊥ = cc in clash
 
-  pub at_once : (placed answer : Placed) → unless_full placed ≡ Some answer → IsPlacement files g id wanted.key wanted.order wanted.first wanted.states from until us v w placed → MakesRoom files g id wanted v w 0 answer
-  at_once (Filled pin) answer e p = let same : Filled pin ≡ answer = cc in let P : Placed → Type 0 = λ x. MakesRoom files g id wanted v w 0 x in subst P same (placed_at_once (Filled pin) p (λ Q. tt))
+  pub at_once : (placed answer : Placed) → unless_full placed ≡ Some answer → IsPlacement files g id wanted.key wanted.order wanted.first wanted.states from until us v w placed → MakesWhereFull files g id wanted v w 0 answer
+  at_once (Filled pin) answer e p = let same : Filled pin ≡ answer = cc in let P : Placed → Type 0 = λ x. MakesWhereFull files g id wanted v w 0 x in subst P same (placed_at_once (Filled pin) p (λ Q. tt))
   at_once (Bypass (NoRoom words)) answer e p = absurd (not_full answer (sym e))
-  at_once (Bypass (Raced saw)) answer e p = let same : Bypass (Raced saw) ≡ answer = cc in let P : Placed → Type 0 = λ x. MakesRoom files g id wanted v w 0 x in subst P same (placed_at_once (Bypass (Raced saw)) p (λ Q. tt))
-  at_once (Bypass (Busy word)) answer e p = let same : Bypass (Busy word) ≡ answer = cc in let P : Placed → Type 0 = λ x. MakesRoom files g id wanted v w 0 x in subst P same (placed_at_once (Bypass (Busy word)) p (λ Q. tt))
-  at_once (Bypass (SetFull states)) answer e p = let same : Bypass (SetFull states) ≡ answer = cc in let P : Placed → Type 0 = λ x. MakesRoom files g id wanted v w 0 x in subst P same (placed_at_once (Bypass (SetFull states)) p (λ Q. tt))
-  at_once (Bypass PolicyOut) answer e p = let same : Bypass PolicyOut ≡ answer = cc in let P : Placed → Type 0 = λ x. MakesRoom files g id wanted v w 0 x in subst P same (placed_at_once (Bypass PolicyOut) p (λ Q. tt))
+  at_once (Bypass (Raced saw)) answer e p = let same : Bypass (Raced saw) ≡ answer = cc in let P : Placed → Type 0 = λ x. MakesWhereFull files g id wanted v w 0 x in subst P same (placed_at_once (Bypass (Raced saw)) p (λ Q. tt))
+  at_once (Bypass (Busy word)) answer e p = let same : Bypass (Busy word) ≡ answer = cc in let P : Placed → Type 0 = λ x. MakesWhereFull files g id wanted v w 0 x in subst P same (placed_at_once (Bypass (Busy word)) p (λ Q. tt))
+  at_once (Bypass (SetFull states)) answer e p = let same : Bypass (SetFull states) ≡ answer = cc in let P : Placed → Type 0 = λ x. MakesWhereFull files g id wanted v w 0 x in subst P same (placed_at_once (Bypass (SetFull states)) p (λ Q. tt))
+  at_once (Bypass PolicyOut) answer e p = let same : Bypass PolicyOut ≡ answer = cc in let P : Placed → Type 0 = λ x. MakesWhereFull files g id wanted v w 0 x in subst P same (placed_at_once (Bypass PolicyOut) p (λ Q. tt))
 
   no_room_grants : (words : List ℕ) → IsFilled (Bypass (NoRoom words)) ⊎ IsLost us (Bypass (NoRoom words)) → ⊥
   no_room_grants words h = elim h [ inl not ↦ not | inr lost ↦ (let e : Bypass (NoRoom words) ≡ Bypass (Raced lost.1) = lost.2 in let clash : ⊥ = cc in clash) ]
@@ -295,6 +349,15 @@ module _ (files : Option Files) (g : Geometry) (id : ℕ) (wanted : Wanted) (fro
   quiet_full (Bypass (SetFull states)) e p = absurd (not_full (Bypass (SetFull states)) e)
   quiet_full (Bypass PolicyOut) e p = absurd (not_full (Bypass PolicyOut) e)
 
+  -- and it shows that none of the arenas has room
+  pub full_words : (placed : Placed) → unless_full placed ≡ None → IsPlacement files g id wanted.key wanted.order wanted.first wanted.states from until us v w placed → (words : List ℕ) × HasNoRoom g wanted.order from until us words
+  full_words (Filled pin) e p = absurd (not_full (Filled pin) e)
+  full_words (Bypass (NoRoom words)) e p = (words, p.tells)
+  full_words (Bypass (Raced saw)) e p = absurd (not_full (Bypass (Raced saw)) e)
+  full_words (Bypass (Busy word)) e p = absurd (not_full (Bypass (Busy word)) e)
+  full_words (Bypass (SetFull states)) e p = absurd (not_full (Bypass (SetFull states)) e)
+  full_words (Bypass PolicyOut) e p = absurd (not_full (Bypass PolicyOut) e)
+
 no_room_maps : (r : Placed) (P Q : Type 0) → (P → Q) → IfNoRoom r P → IfNoRoom r Q
 no_room_maps (Filled pin) P Q f h = tt
 no_room_maps (Bypass (NoRoom words)) P Q f h = f h
@@ -303,21 +366,32 @@ no_room_maps (Bypass (Busy word)) P Q f h = tt
 no_room_maps (Bypass (SetFull states)) P Q f h = tt
 no_room_maps (Bypass PolicyOut) P Q f h = tt
 
--- room that is made behind quiet steps that released nothing
-pub made_behind : (files : Option Files) (g : Geometry) (id id' : ℕ) (wanted : Wanted) (v u w : View) (xs : List WordStep) (evicted : ℕ) (placed : Placed) → id' ≡ id → IsQuiet files g id wanted.key v xs u → releases xs ≡ 0 → MakesRoom files g id' wanted u w evicted placed → MakesRoom files g id wanted v w evicted placed
-made_behind files g id id' wanted v u w xs evicted placed same q none m' =
-    let M : ℕ → Type 0 = λ n. MakesRoom files g n wanted u w evicted placed in
-    let m = subst M same m' in
+-- room that is made by tries, behind quiet steps that released nothing and found no arena with room
+pub made_behind : (files : Option Files) (g : Geometry) (id id' : ℕ) (wanted : Wanted) (v u w : View) (xs : List WordStep) (evicted arenas : ℕ) (placed : Placed) → id' ≡ id → IsQuiet files g id wanted.key v xs u → releases xs ≡ 0 → IsOrder g wanted.key.len wanted.order → arenas ≡ g.arenas → ((words : List ℕ) × HasNoRoom g wanted.order 0 arenas xs words) → MakesByTries files g id' wanted u w evicted placed → MakesWhereFull files g id wanted v w evicted placed
+made_behind files g id id' wanted v u w xs evicted arenas placed same q none order is full made =
+    let M : ℕ → Type 0 = λ n. MakesByTries files g n wanted u w evicted placed in
+    let both = subst M same made in
+    let m = both.0 in
     let sum = releases-append xs m.ss in
     let count = m.count in
-    record {
-      ss = xs ++ m.ss;
-      ts = m.ts;
-      mid = m.mid;
-      from = m.from;
-      until = m.until;
-      quiet = quiet_then files g id wanted.key v u m.mid xs m.ss q m.quiet;
-      places = m.places;
-      count = omega (arith, sum, none, count);
-      tried = no_room_maps placed _ _ (λ h. (h.0, h.1, λ header lt. tried_back header xs m.ss (h.2 header lt))) m.tried;
-    }
+    let F : ℕ → Type 0 = λ n. HasNoRoom g wanted.order 0 n xs full.0 in (
+      record {
+        ss = xs ++ m.ss;
+        ts = m.ts;
+        mid = m.mid;
+        from = m.from;
+        until = m.until;
+        quiet = quiet_then files g id wanted.key v u m.mid xs m.ss q m.quiet;
+        places = m.places;
+        count = omega (arith, sum, none, count);
+        tried = no_room_maps placed _ _ (λ h. (h.0, h.1, λ header lt. tried_back header xs m.ss (h.2 header lt))) m.tried;
+      },
+      record {
+        asking = xs;
+        more = m.ss ++ m.ts;
+        parts = append_assoc xs m.ss m.ts;
+        kept = none;
+        full = inr (wanted.order, order, full.0, subst F is full.1);
+        sought = both.1;
+      },
+    )

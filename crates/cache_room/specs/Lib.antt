@@ -2,6 +2,8 @@ pub mod Tried
 pub mod TriedLaws
 pub mod Touchings
 pub mod Quiet
+pub mod Seeking
+pub mod SeekingLaws
 pub mod Rooms
 pub mod Searches
 pub mod SearchLaws

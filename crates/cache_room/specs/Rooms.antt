@@ -1,5 +1,5 @@
 -- What is tried to make room for a range, and what comes of it. Source: this project's own.
-use Rattle.std.specs.Prelude.{◌≡◌, ℕ, ◌+◌, ◌-◌, ◌^◌, ◌<◌, ◌≤◌, min, Bool, true, false, List, length, Option, None, Some, slice_index}
+use Rattle.std.specs.Prelude.{◌≡◌, ℕ, ◌+◌, ◌++◌, ◌-◌, ◌^◌, ◌<◌, ◌≤◌, min, Bool, true, false, List, length, Option, None, Some, slice_index}
 use Rattle.std.specs.Prelude.{slice_index_or, slice_set}
 use Rattle.buffer_word.specs.declared.key_word.Key.{Key}
 use Rattle.buffer_word.specs.KeyWord.{IsKey}
@@ -19,6 +19,7 @@ use Rattle.cache_placement.specs.Free.{IsFirstFree, IsOrder, NoneFree}
 use Rattle.cache_placement.specs.Placements.{IsPlacement}
 use Rattle.cache_room.specs.declared.wanted.Wanted.{Wanted}
 use Rattle.cache_room.specs.Quiet.{IsQuiet}
+use Rattle.cache_room.specs.Seeking.{AsksOwn, IsSought, SeeksRoom}
 use Rattle.cache_room.specs.Tried.{HasTouch, IsTried, last_saw, releases}
 
 -- ---- a way of a set
@@ -72,13 +73,15 @@ AreMarked n tried = (header : ℕ) → header < n → slice_index_or tried heade
 abbrev pub counted : List WordStep → ℕ
 counted ss = min (releases ss) (2 ^ 32 - 1)
 
--- the headers that are marked were tried, after each header's touches were looked at; so many were released
+-- The headers that are marked were tried, after each header's touches were looked at. So many were released, and behind each the arena of
+-- its block was asked, and no other arena.
 pub record HeadersTried (files : Option Files) (g : Geometry) (id : ℕ) (key : Key) (old : View) (tried : List Bool)
     (evicted : ℕ) (new : View) : Type 0 where
   pub ss : List WordStep
   pub quiet : IsQuiet files g id key old ss new
   pub touched : (header : ℕ) → header < headers_of g → HasTouch header ss
   pub count : evicted ≡ counted ss
+  pub asks : AsksOwn ss
   pub ended : (header : ℕ) → slice_index_or tried header false ≡ true → IsTried header ss
 
 -- where the answer is that there is no room, that holds
@@ -113,10 +116,24 @@ pub record MakesRoom (files : Option Files) (g : Geometry) (id : ℕ) (wanted : 
   pub count : evicted ≡ counted ss
   pub tried : IfNoRoom placed ((from ≡ 0) × (until ≡ g.arenas) × ((header : ℕ) → header < headers_of g → IsTried header ss))
 
+-- by which the arenas of the blocks that came free were asked, and no others before each header had been tried
+abbrev pub MakesByTries : Option Files → Geometry → ℕ → Wanted → View → View → ℕ → Placed → Type 0
+MakesByTries files g id wanted old new evicted placed =
+    (m : MakesRoom files g id wanted old new evicted placed) × IsSought g (m.ss ++ m.ts)
+
+-- by which headers were released only where no arena had room
+abbrev pub MakesWhereFull : Option Files → Geometry → ℕ → Wanted → View → View → ℕ → Placed → Type 0
+MakesWhereFull files g id wanted old new evicted placed =
+    (m : MakesRoom files g id wanted old new evicted placed) × SeeksRoom g wanted.key.len (m.ss ++ m.ts)
+
 -- it was placed, or what is marked was tried
 abbrev pub RoomLeft : Option Files → Geometry → ℕ → Wanted → View → List Bool → ℕ → View → Option Placed → Type 0
 RoomLeft files g id wanted old tried evicted new None = HeadersTried files g id wanted.key old tried evicted new
-RoomLeft files g id wanted old tried evicted new (Some placed) = MakesRoom files g id wanted old new evicted placed
+RoomLeft files g id wanted old tried evicted new (Some placed) = MakesByTries files g id wanted old new evicted placed
+
+-- one of the ways was seen free
+abbrev pub HasFree : Wanted → Type 0
+HasFree wanted = (way : ℕ) × (way < 8) × (slice_index wanted.states way ≡ 8)
 
 -- what is to be placed: a range with its bytes, in a set of the pool
 pub record IsWanted (files : Option Files) (g : Geometry) (wanted : Wanted) (bytes : List ℕ) : Type 0 where
@@ -136,11 +153,11 @@ with_freed way wanted = record { key = wanted.key; order = wanted.order; first =
 -- A way of the set was seen free, and the range was placed there. Or none was: then a way was freed first; or none could be, and the set
 -- is full.
 pub data IsRoom (files : Option Files) (g : Geometry) (id : ℕ) (wanted : Wanted) (old new : View) (evicted : ℕ) : Placed → Type 0 where
-  in_free : (way : ℕ) (placed : Placed) → IsFirstFree wanted.states way → MakesRoom files g id wanted old new evicted placed
+  in_free : (way : ℕ) (placed : Placed) → IsFirstFree wanted.states way → MakesWhereFull files g id wanted old new evicted placed
       → IsRoom files g id wanted old new evicted placed
   in_freed : (way more : ℕ) (mid : View) (placed : Placed) → NoneFree wanted.states
       → IsWayFreed files g id wanted.key wanted.first old way mid
-      → MakesRoom files g id (with_freed way wanted) mid new more placed → evicted ≡ min (more + 1) (2 ^ 32 - 1)
+      → MakesWhereFull files g id (with_freed way wanted) mid new more placed → evicted ≡ min (more + 1) (2 ^ 32 - 1)
       → IsRoom files g id wanted old new evicted placed
   in_none : (seen : List ℕ) → NoneFree wanted.states → IsSetTried files g id wanted.key wanted.first old seen new → evicted ≡ 0
       → IsRoom files g id wanted old new evicted (Bypass (SetFull seen))

@@ -1,11 +1,11 @@
 //! A range is placed, and buffers are evicted where that is needed.
-ghost use Rattle.std.specs.Prelude.{◌≡◌, ◌<◌, ℕ, MatchOption, length, slice_index};
+ghost use Rattle.std.specs.Prelude.{◌≡◌, ◌-◌, ◌^◌, ◌<◌, ℕ, MatchOption, length, slice_index};
 ghost use Rattle.pool_rule.specs.Layout.{headers_of};
 ghost use Rattle.buffer_pool.specs.Pools.{IsSameSeat, IsSeatOf, seat_id, sizes_of, view};
 ghost use Rattle.cache_placement.specs.Free.{IsFirstFree, NoneFree};
 ghost use Rattle.cache_placement.specs.Placements.{HoldsPlaced};
 ghost use Rattle.cache_room.specs.Quiet.{AreKnown};
-ghost use Rattle.cache_room.specs.Rooms.{IsRoom, IsWanted, MakesRoom, with_freed};
+ghost use Rattle.cache_room.specs.Rooms.{HasFree, IsRoom, IsWanted, MakesWhereFull, with_freed};
 ghost use Rattle.cache_room.specs.Searches.{Ranks, SearchesIf, is_no_room, why_of};
 
 use crate::room::{place_evicting, unless_full};
@@ -63,11 +63,13 @@ fn place_in_free<W: World>(
     requires tried { length tried.old ≡ headers_of (sizes_of pool.now) }
     requires known { AreKnown (view seat.old) }
     requires wanted { IsWanted W.files (sizes_of pool.now) wanted.now bytes.now }
+    requires free { HasFree wanted.now }
     ensures seat { IsSameSeat pool.now seat.old seat.new }
     ensures entries { length policy.new.entries ≡ length policy.old.entries }
     ensures tried { length tried.new ≡ length tried.old }
     ensures token { HoldsPlaced pool.now seat.new wanted.now.key result.placed }
-    ensures makes { MakesRoom W.files (sizes_of pool.now) (seat_id seat.old) wanted.now (view seat.old) (view seat.new)
+    ensures few { result.evicted < 2 ^ 32 - 2 }
+    ensures makes { MakesWhereFull W.files (sizes_of pool.now) (seat_id seat.old) wanted.now (view seat.old) (view seat.new)
         result.evicted result.placed }
     ensures searched { SearchesIf W.files (sizes_of pool.now) (seat_id seat.old) (is_no_room result.placed) policy.old policy.new
         (view seat.old) (view seat.new) }
@@ -120,6 +122,7 @@ pub fn place_or_evict<W: World>(
     ensures entries { length policy.new.entries ≡ length policy.old.entries }
     ensures tried { length tried.new ≡ length tried.old }
     ensures token { HoldsPlaced pool.now seat.new wanted.key result.placed }
+    ensures few { result.evicted < 2 ^ 32 - 1 }
     ensures room { IsRoom W.files (sizes_of pool.now) (seat_id seat.old) wanted (view seat.old) (view seat.new) result.evicted
         result.placed }
     ensures ranked { Ranks W.files (sizes_of pool.now) (seat_id seat.old) wanted.first policy.old policy.new (view seat.old)

@@ -1,5 +1,5 @@
 //! A block of full arenas is made free, and the range is placed in it.
-ghost use Rattle.std.specs.Prelude.{◌≡◌, ◌⊎◌, ◌<◌, ◌≤◌, ℕ, List, Bool, true, false, None, MatchOption, length, slice_set};
+ghost use Rattle.std.specs.Prelude.{◌≡◌, ◌⊎◌, ◌+◌, ◌-◌, ◌^◌, ◌<◌, ◌≤◌, ℕ, List, Bool, true, false, None, MatchOption, length, slice_set};
 ghost use Rattle.lrfu_policy.specs.Policy.{Ranking, with_entry};
 ghost use Rattle.pool_rule.specs.declared.view.View.{View};
 ghost use Rattle.pool_rule.specs.Layout.{headers_of};
@@ -7,7 +7,7 @@ ghost use Rattle.buffer_pool.specs.Pools.{IsSameSeat, IsSeatOf, seat_id, sizes_o
 ghost use Rattle.cache_eviction.specs.Order.{IsOneTry, IsVictimWalk, IsWalkOn};
 ghost use Rattle.cache_placement.specs.Placements.{HoldsPlaced};
 ghost use Rattle.cache_room.specs.Quiet.{AreKnown};
-ghost use Rattle.cache_room.specs.Rooms.{AreMarked, HeadersTried, IsWanted, MakesRoom, RoomLeft, unless_full};
+ghost use Rattle.cache_room.specs.Rooms.{AreMarked, HasFree, HeadersTried, IsWanted, MakesByTries, RoomLeft, unless_full};
 ghost use Rattle.cache_room.specs.Searches.{Searches, WalkLeft, is_no_room};
 
 use crate::Wanted;
@@ -56,12 +56,14 @@ fn place_for<W: World>(
     requires entries { length policy.old.entries ≡ headers_of (sizes_of pool.now) }
     requires header { header < headers_of (sizes_of pool.now) }
     requires wanted { IsWanted W.files (sizes_of pool.now) wanted.now bytes.now }
+    requires free { HasFree wanted.now }
     ensures seat { IsSameSeat pool.now seat.old seat.new }
     ensures entries { length policy.new.entries ≡ length policy.old.entries }
     ensures policy { (policy.new ≡ policy.old) ⊎ (policy.new ≡ with_entry header None policy.old) }
     ensures one { IsOneTry W.files (sizes_of pool.now) (seat_id seat.old) header policy.old policy.new (view seat.old) (view seat.new) }
     ensures roomy { MatchOption result (Unit {0}) (λ placed. is_no_room placed ≡ false) }
     ensures token { MatchOption result (Unit {0}) (HoldsPlaced pool.now seat.new wanted.now.key) }
+    ensures few { evicted.new ≤ evicted.old + 1 }
     ensures left { (start : View) (tried : List Bool) → header < length tried
         → HeadersTried W.files (sizes_of pool.now) (seat_id seat.old) wanted.now.key start tried evicted.old (view seat.old)
         → RoomLeft W.files (sizes_of pool.now) (seat_id seat.old) wanted.now start (slice_set tried header true) evicted.new
@@ -101,10 +103,12 @@ fn place_for_victims<W: World>(
     requires entries { length policy.old.entries ≡ headers_of (sizes_of pool.now) }
     requires tried { length tried.old ≡ headers_of (sizes_of pool.now) }
     requires wanted { IsWanted W.files (sizes_of pool.now) wanted.now bytes.now }
+    requires free { HasFree wanted.now }
     ensures seat { IsSameSeat pool.now seat.old seat.new }
     ensures entries { length policy.new.entries ≡ length policy.old.entries }
     ensures roomy { MatchOption result (Unit {0}) (λ placed. is_no_room placed ≡ false) }
     ensures token { MatchOption result (Unit {0}) (HoldsPlaced pool.now seat.new wanted.now.key) }
+    ensures few { evicted.new ≤ evicted.old + headers_of (sizes_of pool.now) }
     ensures left { (start : View) → HeadersTried W.files (sizes_of pool.now) (seat_id seat.old) wanted.now.key start tried.old
         evicted.old (view seat.old)
         → RoomLeft W.files (sizes_of pool.now) (seat_id seat.old) wanted.now start tried.new evicted.new (view seat.new) result }
@@ -141,10 +145,12 @@ fn place_for_others<W: World>(
     requires entries { length policy.old.entries ≡ headers_of (sizes_of pool.now) }
     requires tried { length tried.old ≡ headers_of (sizes_of pool.now) }
     requires wanted { IsWanted W.files (sizes_of pool.now) wanted.now bytes.now }
+    requires free { HasFree wanted.now }
     ensures seat { IsSameSeat pool.now seat.old seat.new }
     ensures entries { length policy.new.entries ≡ length policy.old.entries }
     ensures roomy { MatchOption result (Unit {0}) (λ placed. is_no_room placed ≡ false) }
     ensures token { MatchOption result (Unit {0}) (HoldsPlaced pool.now seat.new wanted.now.key) }
+    ensures few { evicted.new ≤ evicted.old + headers_of (sizes_of pool.now) }
     ensures left { (start : View) → HeadersTried W.files (sizes_of pool.now) (seat_id seat.old) wanted.now.key start tried.old
         evicted.old (view seat.old)
         → RoomLeft W.files (sizes_of pool.now) (seat_id seat.old) wanted.now start tried.new evicted.new (view seat.new) result }
@@ -189,11 +195,13 @@ pub(crate) fn place_evicting<W: World>(
     requires tried { length tried.old ≡ headers_of (sizes_of pool.now) }
     requires known { AreKnown (view seat.old) }
     requires wanted { IsWanted W.files (sizes_of pool.now) wanted.now bytes.now }
+    requires free { HasFree wanted.now }
     ensures seat { IsSameSeat pool.now seat.old seat.new }
     ensures entries { length policy.new.entries ≡ length policy.old.entries }
     ensures tried { length tried.new ≡ length tried.old }
     ensures token { HoldsPlaced pool.now seat.new wanted.now.key result.placed }
-    ensures makes { MakesRoom W.files (sizes_of pool.now) (seat_id seat.old) wanted.now (view seat.old) (view seat.new)
+    ensures few { result.evicted < 2 ^ 32 - 2 }
+    ensures makes { MakesByTries W.files (sizes_of pool.now) (seat_id seat.old) wanted.now (view seat.old) (view seat.new)
         result.evicted result.placed }
     ensures searched { Searches W.files (sizes_of pool.now) (seat_id seat.old) 0 (headers_of (sizes_of pool.now))
         (is_no_room result.placed) policy.old policy.new (view seat.old) (view seat.new) }

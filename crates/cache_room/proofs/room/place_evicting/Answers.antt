@@ -9,7 +9,7 @@ use Rattle.cache_room.specs.Searches.{is_no_room}
 use Rattle.cache_room.specs.SearchLaws.{searched}
 use Rattle.pool_rule.specs.declared.geometry.Geometry.{Geometry}
 use Rattle.buffer_pool.specs.Pools.{seat_id, sizes_of, view}
-use Rattle.cache_room.specs.Rooms.{HeadersTried, MakesRoom}
+use Rattle.cache_room.specs.Rooms.{HeadersTried, MakesByTries}
 use Rattle.cache_room.proofs.Trials.{asked_all, headers_begin, none_marked}
 use Rattle.cache_room.proofs.room.place_evicting.Goals as goal
 
@@ -24,7 +24,7 @@ returns-in-Some-clause-makes g c =
     let none : (i : ℕ) → slice_index_or marks i false ≡ false = λ i. ap (λ (l : List Bool). slice_index_or l i false) c.unmark_all.ensures ∙ none_marked (length c.args.tried.now) i in
     let B : ℕ → Type 0 = λ n. HeadersTried files sizes n wanted.key start marks 0 (view c.consult.new.seat) in
     let begun = headers_begin files sizes (seat_id c.args.seat.now) wanted.key start marks (view c.consult.new.seat) c.args.policy.now c.consult.new.policy c.requires.known none c.consult.ensures.consults in
-    let R : ℕ → Type 0 = λ n. MakesRoom files sizes n wanted start (view c.place_for_victims.new.seat) c.place_for_victims.new.evicted c.in-Some.placed in
+    let R : ℕ → Type 0 = λ n. MakesByTries files sizes n wanted start (view c.place_for_victims.new.seat) c.place_for_victims.new.evicted c.in-Some.placed in
     subst R e (c.in-Some.ensures.left start (subst B (sym e) begun))
 
 pub returns-in-Some-place_for_others-clause-makes : goal.returns-in-Some-place_for_others-clause-makes
@@ -41,7 +41,7 @@ returns-in-Some-place_for_others-clause-makes g c =
     let begun = headers_begin files sizes (seat_id c.args.seat.now) wanted.key start marks (view c.consult.new.seat) c.args.policy.now c.consult.new.policy c.requires.known none c.consult.ensures.consults in
     let mid = c.in-None.ensures.left start (subst B (sym e) begun) in
     let M : ℕ → Type 0 = λ n. HeadersTried files sizes n wanted.key start c.place_for_victims.new.tried c.place_for_victims.new.evicted (view c.place_for_victims.new.seat) in
-    let R : ℕ → Type 0 = λ n. MakesRoom files sizes n wanted start (view c.place_for_others.new.seat) c.place_for_others.new.evicted c.in-Some-place_for_others.placed in
+    let R : ℕ → Type 0 = λ n. MakesByTries files sizes n wanted start (view c.place_for_others.new.seat) c.place_for_others.new.evicted c.in-Some-place_for_others.placed in
     subst R (f ∙ e) (c.in-Some-place_for_others.ensures.left start (subst M (sym f) mid))
 
 pub returns-clause-makes : goal.returns-clause-makes

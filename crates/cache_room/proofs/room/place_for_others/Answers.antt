@@ -65,6 +65,7 @@ loop-header-preserved g c =
       entries = c.place_for.ensures.entries ∙ same;
       tried_len = length-set tried header true ∙ len;
       done = marked_more tried header within k.done;
+      few = (let one = c.place_for.ensures.few in let was = k.few in omega (arith, one, was));
       left = λ start h.
           let H : ℕ → Type 0 = λ n. HeadersTried files sizes n c.args.wanted.now.key start tried c.loop-header.evicted (view c.loop-header.seat) in
           let R : ℕ → Type 0 = λ n. HeadersTried files sizes n c.args.wanted.now.key start (slice_set tried header true) c.place_for.new.evicted (view c.place_for.new.seat) in

@@ -6,7 +6,7 @@ use Rattle.pool_rule.specs.Layout.{headers_of}
 use Rattle.cache_eviction.specs.OrderLaws.{all_ranked, walk_end}
 use Rattle.buffer_pool.specs.Pools.{seat_id, sizes_of, view}
 use Rattle.cache_room.specs.Rooms.{HeadersTried, RoomLeft}
-use Rattle.cache_room.proofs.Trials.{walks_on}
+use Rattle.cache_room.proofs.Trials.{few_above, walks_on}
 use Rattle.cache_room.proofs.Walks.{victim_step}
 use Rattle.cache_room.proofs.room.place_for_victims.Goals as goal
 
@@ -51,6 +51,7 @@ loop-rank-preserved g c =
       same = c.place_for.ensures.seat.same ∙ k.same;
       entries = c.place_for.ensures.entries ∙ k.entries;
       tried_len = length-set tried rank.header true ∙ k.tried_len;
+      few = (let smaller = walks_on c.walk_ends.ensures.falls c.walk_ends.ensures.forgets c.loop-rank.policy c.place_for.new.policy c.loop-rank.after rank c.in-Some.ensures (omega (arith, below)) c.place_for.ensures.entries c.place_for.ensures.policy in let one = c.place_for.ensures.few in let was = k.few in omega (arith, smaller, one, was));
       left = λ start h.
           let H : ℕ → Type 0 = λ n. HeadersTried files sizes n c.args.wanted.now.key start tried c.loop-rank.evicted (view c.loop-rank.seat) in
           let R : ℕ → Type 0 = λ n. HeadersTried files sizes n c.args.wanted.now.key start (slice_set tried rank.header true) c.place_for.new.evicted (view c.place_for.new.seat) in
@@ -85,3 +86,21 @@ returns-clause-walk g c told start h =
     let L : ℕ → Type 0 = λ n. IsLeast (Among 0 n) c.loop-rank.policy.entries c.loop-rank.after None in
     all_ranked c.ranks_are_ordered.ensures c.none_between.ensures g.W.World.files sizes (seat_id c.args.seat.now) 0 (headers_of sizes) told start c.loop-rank.after c.loop-rank.tried c.loop-rank.policy (view c.loop-rank.seat) (k.walk told start h)
     (subst L (k.entries ∙ c.requires.entries) c.in_default.ensures)
+
+pub returns-in-Some-place_for-clause-few : goal.returns-in-Some-place_for-clause-few
+returns-in-Some-place_for-clause-few g c =
+    let below = c.in-Some.ensures.among.1 in
+    let smaller = walks_on c.walk_ends.ensures.falls c.walk_ends.ensures.forgets c.loop-rank.policy c.place_for.new.policy c.loop-rank.after c.in-Some.rank c.in-Some.ensures (omega (arith, below)) c.place_for.ensures.entries
+    c.place_for.ensures.policy in
+    let one = c.place_for.ensures.few in
+    let was = c.loop-rank.invariant.few in
+    let n = c.requires.entries in
+    let all = few_above c.args.policy.now.entries None (length c.args.policy.now.entries) in
+    omega (arith, smaller, one, was, all, n)
+
+pub returns-clause-few : goal.returns-clause-few
+returns-clause-few g c =
+    let was = c.loop-rank.invariant.few in
+    let n = c.requires.entries in
+    let all = few_above c.args.policy.now.entries None (length c.args.policy.now.entries) in
+    omega (arith, was, all, n)
