@@ -44,6 +44,10 @@ use Rattle.range_cache.specs.Callers.{leaves_then, look_publishes, right_trail}
 use Rattle.range_cache.specs.Exact.{IsInNoWay}
 use Rattle.range_cache.specs.Fetches.{IsLost, IsNowhere}
 use Rattle.range_cache.specs.Ranges.{ranged_by}
+use Rattle.cache_placement.specs.Asking.{AsksNone, asked_by}
+use Rattle.cache_room.specs.Seeking.{SeeksRoom}
+use Rattle.cache_room.specs.SeekingLaws.{seeks_before, seeks_only}
+use Rattle.evicting_fetch.specs.Needs.{IsNeeded}
 use Rattle.evicting_fetch.specs.Fetches.{IsEarly, IsFailedFetch, IsFetch, IsLooked, IsWayRaced, Tells, next_tick, ticked}
 
 -- ---- the steps of a look-up
@@ -66,6 +70,29 @@ touch_grants b f header tick touches last there = elim there [ inl e ↦ (let cl
 
 touch_opens : (h : ℕ) (b : Block) (cells : List ℕ) (header tick touches last : ℕ) → Among (Opened h b cells) (touch_steps header tick touches last) → ⊥
 touch_opens h b cells header tick touches last there = elim there [ inl e ↦ (let clash : ⊥ = cc in clash) | inr more ↦ elim more [ inl e ↦ (let clash : ⊥ = cc in clash) | inr ended ↦ ended ] ]
+
+touch_asks : (header tick touches last : ℕ) → AsksNone (touch_steps header tick touches last)
+touch_asks header tick touches last s there =
+    elim there [
+      | inl e ↦ ap asked_by (sym e)
+      | inr more ↦ elim more [ inl e ↦ ap asked_by (sym e) | inr ended ↦ absurd ended ]
+    ]
+
+-- no header was released
+none_needed : (g : Geometry) (key : Key) (ss : List WordStep) → releases ss ≡ 0 → IsNeeded g key ss
+none_needed g key ss none =
+    record { front = []; back = ss; parts = refl; for_way = inl refl; for_block = seeks_only g key.len ss none }
+
+-- none was behind those that were needed
+needed_before : (g : Geometry) (key : Key) (ss end : List WordStep) → IsNeeded g key ss → releases end ≡ 0 → AsksNone end → IsNeeded g key (ss ++ end)
+needed_before g key ss end h none quiet =
+    record {
+      front = h.front;
+      back = h.back ++ end;
+      parts = ap (λ x. x ++ end) h.parts ∙ append_assoc h.front h.back end;
+      for_way = h.for_way;
+      for_block = seeks_before g key.len h.back end h.for_block none quiet;
+    }
 
 hold_since : (header : ℕ) (v u w : View) → IsAsBefore v u → HasHoldMore u w header → HasHoldMore v w header
 hold_since header v u w c h =
@@ -131,6 +158,7 @@ module _ (files : Option Files) (g : Geometry) (id : ℕ) (key : Key) (clock : �
               (right_then files g id key (Unit {0}) v [] (tick ∷ ss) end v u1 x whole (touch_right files g id key (Unit {0}) v (tick ∷ ss) (pin_header pin) (next_tick clock) touches last u1 x made));
           clock = record { clock = clock; between = ss; end = end; steps = refl; touch = (touches, last, refl) };
           evicted = omega (arith, sum, none);
+          needed = none_needed g key (tick ∷ (ss ++ end)) (omega (arith, sum, none));
           looked = λ words known. let e = l.exact (ticked g words) (tick_known words known) in (e.0, e.1, e.3);
         }
       where
@@ -164,6 +192,7 @@ module _ (files : Option Files) (g : Geometry) (id : ℕ) (key : Key) (clock : �
           trail = right_trail files g id key ⊥ v [] (tick ∷ ss) v u1 q.right;
           clock = record { clock = clock; between = ss; end = []; steps = ap (λ x. tick ∷ x) (sym (append-nil ss)); touch = refl };
           evicted = omega (arith, none);
+          needed = none_needed g key (tick ∷ ss) (omega (arith, none));
           looked = λ words known. l.exact (ticked g words) (tick_known words known);
         }
       where
@@ -238,6 +267,7 @@ module _ (files : Option Files) (g : Geometry) (id : ℕ) (key : Key) (clock : �
                 nowhere_early all s.ss refl,
                 record {
                   first = λ way lt. subst P (sym (first_state all s.ss refl way lt)) (none way lt);
+                  none = omega (arith, sum, zero);
                   last = λ way lt.
                       let word : ℕ = header_word g (first_way g key + way) in
                       ap (last_saw word) (events-append g pre s.ss) ∙ last_saw-back word (slice_index seen way) (events g pre) (events g s.ss) (s.last way lt);
@@ -251,20 +281,21 @@ module _ (files : Option Files) (g : Geometry) (id : ℕ) (key : Key) (clock : �
               trail = right_trail files g id key ⊥ v [] all v w q.right;
               clock = record { clock = clock; between = ss ++ s.ss; end = []; steps = ap (λ x. tick ∷ x) (sym (append-nil (ss ++ s.ss))); touch = refl };
               evicted = omega (arith, sum, zero);
+              needed = none_needed g key all (omega (arith, sum, zero));
               looked = λ words known. in_no_way words known;
             },
           )
 
       -- the range was placed, behind quiet steps
-      module _ (order : ℕ) (is : IsOrder g key.len order) (states' : List ℕ) (from until n : ℕ) (more ts : List WordStep) (mid w : View) (q : IsQuiet files g id key v (pre ++ more) mid) (count : n ≡ counted more)
-          (free : (way : ℕ) → IsFirstFree states' way → (slice_index states way ≡ 8) ⊎ ((b : Block) × (f : ℕ) × Among (HeaderReleased (first_way g key + way) b f) more)) where
+      module _ (order : ℕ) (is : IsOrder g key.len order) (states' : List ℕ) (from until n : ℕ) (more ts : List WordStep) (mid w : View) (q : IsQuiet files g id key v (pre ++ more) mid) (count : n ≡ releases more)
+          (free : (way : ℕ) → IsFirstFree states' way → (slice_index states way ≡ 8) ⊎ ((b : Block) × (f : ℕ) × Among (HeaderReleased (first_way g key + way) b f) more)) (need : IsNeeded g key ((pre ++ more) ++ ts)) where
         abbrev pub all : List WordStep
         all = (pre ++ more) ++ ts
 
         parts : all ≡ pre ++ (more ++ ts)
         parts = append_assoc pre more ts
 
-        released : ((s : WordStep) → Among s ts → IsPlaceStep s) → n ≡ counted all
+        released : ((s : WordStep) → Among s ts → IsPlaceStep s) → n ≡ releases all
         released only =
             let sum = releases-append (pre ++ more) ts in
             let front = none_before more in
@@ -290,17 +321,10 @@ module _ (files : Option Files) (g : Geometry) (id : ℕ) (key : Key) (clock : �
                     (right_then files g id key ⊥ v [] all end v w x whole (touch_right files g id key ⊥ v all (pin_header pin) (next_tick clock) touches last w x made));
                 clock = record { clock = clock; between = (ss ++ more) ++ ts; end = end; steps = refl; touch = (touches, last, refl) };
                 evicted = omega (arith, sum, count');
+                needed = needed_before g key all end need (omega arith) (touch_asks (pin_header pin) (next_tick clock) touches last);
                 looked = λ words known. in_no_way words known;
               },
             )
-
-        room : (words : List ℕ) → HasNoRoom g order from until ts words → HasNoRoom g order from until all words
-        room words r =
-            record {
-              last = λ arena le lt. ap (last_load arena) (events-append g (pre ++ more) ts) ∙ last_load-back arena (slice_index words arena) (events g (pre ++ more)) (events g ts) (r.last arena le lt);
-              none = r.none;
-              past = r.past;
-            }
 
         arena_raced : (saw : ℕ) → IsArenaRaced g ts saw → IsArenaRaced g all saw
         arena_raced saw r =
@@ -329,26 +353,30 @@ module _ (files : Option Files) (g : Geometry) (id : ℕ) (key : Key) (clock : �
               ];
             }
 
-        why_tells : (some : (way : ℕ) × IsFirstFree states' way) → (why : Why) → IfNoRoom (placed.Bypass why) ((from ≡ 0) × (until ≡ g.arenas) × ((header : ℕ) → header < headers_of g → IsTried header more)) → placement.Tells g order (first_way g key) states' from until ts (placed.Bypass why) → Tells g key all (Bypass why)
-        why_tells some (NoRoom words) tried t =
-            let P : ℕ × ℕ → Type 0 = λ z. HasNoRoom g order z.0 z.1 all words in
+        why_tells : (some : (way : ℕ) × IsFirstFree states' way) → (why : Why) → IfNoRoom (placed.Bypass why) ((from ≡ 0) × (until ≡ g.arenas) × ((header : ℕ) → header < headers_of g → IsTried header more)) → releases ts ≡ 0 → placement.Tells g order (first_way g key) states' from until ts (placed.Bypass why) → Tells g key all (Bypass why)
+        why_tells some (NoRoom words) tried none t =
+            let P : ℕ × ℕ → Type 0 = λ z. HasNoRoom g order z.0 z.1 ts words in
             let a = tried.0 in
             let b = tried.1 in (
               nowhere_early all (more ++ ts) parts,
               record {
                 order = order;
                 is_order = is;
-                room = subst P (λ i. (a i, b i)) (room words t);
+                earlier = pre ++ more;
+                later = ts;
+                parts = refl;
+                none = none;
+                room = subst P (λ i. (a i, b i)) t;
                 tried = λ header lt. tried_front header (pre ++ more) ts (tried_back header pre more (tried.2 header lt));
               },
             )
-        why_tells some (Raced saw) tried t = (
+        why_tells some (Raced saw) tried none t = (
           nowhere_early all (more ++ ts) parts,
           elim t [ inl arena ↦ inl (arena_raced saw arena) | inr way ↦ inr (way_raced saw way.0 way.1 way.2) ],
         )
-        why_tells some (Busy word) tried t = absurd t
-        why_tells some (SetFull seen) tried t = absurd (t.0 some.0 some.1.inside some.1.free)
-        why_tells some PolicyOut tried t = t
+        why_tells some (Busy word) tried none t = absurd t
+        why_tells some (SetFull seen) tried none t = absurd (t.0 some.0 some.1.inside some.1.free)
+        why_tells some PolicyOut tried none t = t
 
         lost_later : (why : Why) → placement.IsLost ts (placed.Bypass why) → IsLost all (Bypass why)
         lost_later why h = (h.0, h.1, ap Bypass (let e : why ≡ Raced h.1 = cc in e), among_back (Missed (State h.0) h.1) (pre ++ more) ts h.3)
@@ -366,7 +394,7 @@ module _ (files : Option Files) (g : Geometry) (id : ℕ) (key : Key) (clock : �
           record {
             right = right_parts files g id key ⊥ v mid w (pre ++ more) ts q.right q.before p.right;
             leaves = before_then v mid w q.before p.leaves;
-            tells = why_tells some why tried p.tells;
+            tells = why_tells some why tried (place_releases ts p.only) p.tells;
             granted = λ b f there.
                 elim (among_either (Granted b f) (pre ++ more) ts there) [
                   | inl front ↦ absurd (q.ungranted b f front)
@@ -382,6 +410,7 @@ module _ (files : Option Files) (g : Geometry) (id : ℕ) (key : Key) (clock : �
             trail = right_trail files g id key ⊥ v [] all v w (right_parts files g id key ⊥ v mid w (pre ++ more) ts q.right q.before p.right);
             clock = record { clock = clock; between = (ss ++ more) ++ ts; end = []; steps = ap (λ x. tick ∷ x) (sym (append-nil ((ss ++ more) ++ ts))); touch = refl };
             evicted = released p.only;
+            needed = need;
             looked = looked_why why p.tells;
           },
         )
@@ -410,7 +439,7 @@ module _ (files : Option Files) (g : Geometry) (id : ℕ) (key : Key) (clock : �
       tried_all (SetFull seen) xs ms from until h = tt
       tried_all PolicyOut xs ms from until h = tt
 
-      module _ (order : ℕ) (is : IsOrder g key.len order) (len : length states ≡ 8) (w : View) (evicted : ℕ) where
+      module _ (order : ℕ) (is : IsOrder g key.len order) (len : length states ≡ 8) (w : View) (evicted : ℕ) (few : evicted < 2 ^ 32 - 1) where
         abbrev pub wanted : Wanted
         wanted = record { key = key; order = order; first = first_way g key; states = states }
 
@@ -425,23 +454,61 @@ module _ (files : Option Files) (g : Geometry) (id : ℕ) (key : Key) (clock : �
         freed_quiet : (way : ℕ) (mid end : View) (ms : List WordStep) (f : IsWayFreed files g id key (first_way g key) u1 way mid) → IsQuiet files g id key mid ms end → IsQuiet files g id key v (pre ++ (f.ss ++ ms)) end
         freed_quiet way mid end ms f q = quiet_then files g id key v u1 end pre (f.ss ++ ms) pre_quiet (quiet_then files g id key u1 mid end f.ss ms f.quiet q)
 
-        freed_count : (way k : ℕ) (mid : View) (ms : List WordStep) (f : IsWayFreed files g id key (first_way g key) u1 way mid) → k ≡ counted ms → evicted ≡ min (k + 1) (2 ^ 32 - 1) → evicted ≡ counted (f.ss ++ ms)
-        freed_count way k mid ms f a b =
+        -- so few that the count doesn't stop
+        free_count : (ms : List WordStep) → evicted < 2 ^ 32 - 1 → evicted ≡ counted ms → evicted ≡ releases ms
+        free_count ms few e = omega (arith, few, e)
+
+        freed_count : (way k : ℕ) (mid : View) (ms : List WordStep) (f : IsWayFreed files g id key (first_way g key) u1 way mid) → evicted < 2 ^ 32 - 1 → k ≡ counted ms → evicted ≡ min (k + 1) (2 ^ 32 - 1) → evicted ≡ releases (f.ss ++ ms)
+        freed_count way k mid ms f few a b =
             let sum = releases-append f.ss ms in
             let one = f.one in
-            omega (arith, sum, one, a, b)
+            omega (arith, sum, one, a, b, few)
+
+        -- no header was released for a way
+        free_needed : (ms ts : List WordStep) → SeeksRoom g key.len (ms ++ ts) → IsNeeded g key ((pre ++ ms) ++ ts)
+        free_needed ms ts s =
+            let none = look_releases l.only in
+            record { front = pre; back = ms ++ ts; parts = append_assoc pre ms ts; for_way = inl (omega (arith, none)); for_block = s }
+
+        -- one was
+        freed_needed : (way : ℕ) (mid : View) (ms ts : List WordStep) → NoneFree states → (f : IsWayFreed files g id key (first_way g key) u1 way mid) → SeeksRoom g key.len (ms ++ ts) → IsNeeded g key ((pre ++ (f.ss ++ ms)) ++ ts)
+        freed_needed way mid ms ts none f s =
+            let lt = f.inside in
+            let header : ℕ = first_way g key + way in
+            let front : List WordStep = pre ++ f.ss in
+            let P : Option ℕ → Type 0 = λ o. IsSomeAnd o (λ word. word ≢ 8) in
+            let sum = none_before f.ss in
+            let one = f.one in
+            record {
+              front = front;
+              back = ms ++ ts;
+              parts = ap (λ x. x ++ ts) (sym (append_assoc pre f.ss ms)) ∙ append_assoc front ms ts;
+              for_way = inr
+                  (record {
+                    header = header;
+                    way = (omega arith, omega (arith, lt));
+                    released = (f.released.0, f.released.1, among_back (HeaderReleased header f.released.0 f.released.1) pre f.ss f.released.2);
+                    one = omega (arith, sum, one);
+                    taken = λ w less. subst P (sym (first_state front f.ss refl w less)) (none w less);
+                  });
+              for_block = s;
+            }
 
         pub room_filled : (pin : Pin) (touches last : ℕ) (x : View) → IsRoom files g id wanted u1 w evicted (placed.Filled pin) → AreMade files g id (touch_steps (pin_header pin) (next_tick clock) touches last) w x → (steps : List WordStep) × IsFetch files g id key steps v x (ranged_by Filled evicted (grip.Pin pin))
-        room_filled pin touches last x (in_free way _ first m) made =
-            filled order is states m.from m.until evicted m.ss m.ts m.mid w (quiet_then files g id key v u1 m.mid pre m.ss pre_quiet m.quiet) m.count (free_now m.ss) pin touches last x m.places made
-        room_filled pin touches last x (in_freed way k mid _ none f m count) made =
-            filled order is (slice_set states way 8) m.from m.until evicted (f.ss ++ m.ss) m.ts m.mid w (freed_quiet way mid m.mid m.ss f m.quiet) (freed_count way k mid m.ss f m.count count) (free_then way f.ss m.ss none f.released) pin touches last x m.places made
+        room_filled pin touches last x (in_free way _ first made_room) made =
+            let m = made_room.0 in
+            filled order is states m.from m.until evicted m.ss m.ts m.mid w (quiet_then files g id key v u1 m.mid pre m.ss pre_quiet m.quiet) (free_count m.ss few m.count) (free_now m.ss) (free_needed m.ss m.ts made_room.1) pin touches last x m.places made
+        room_filled pin touches last x (in_freed way k mid _ none f made_room count) made =
+            let m = made_room.0 in
+            filled order is (slice_set states way 8) m.from m.until evicted (f.ss ++ m.ss) m.ts m.mid w (freed_quiet way mid m.mid m.ss f m.quiet) (freed_count way k mid m.ss f few m.count count) (free_then way f.ss m.ss none f.released) (freed_needed way mid m.ss m.ts none f made_room.1) pin touches last x m.places made
 
         pub room_bypassed : (why : Why) → IsRoom files g id wanted u1 w evicted (placed.Bypass why) → (steps : List WordStep) × IsFetch files g id key steps v w (ranged_by (Bypass why) evicted (grip.Bypass key))
-        room_bypassed why (in_free way _ first m) =
-            bypassed order is states m.from m.until evicted m.ss m.ts m.mid w (quiet_then files g id key v u1 m.mid pre m.ss pre_quiet m.quiet) m.count (free_now m.ss) (way, first) why m.tried m.places
-        room_bypassed why (in_freed way k mid _ none f m count) =
-            bypassed order is (slice_set states way 8) m.from m.until evicted (f.ss ++ m.ss) m.ts m.mid w (freed_quiet way mid m.mid m.ss f m.quiet) (freed_count way k mid m.ss f m.count count) (free_then way f.ss m.ss none f.released)
+        room_bypassed why (in_free way _ first made_room) =
+            let m = made_room.0 in
+            bypassed order is states m.from m.until evicted m.ss m.ts m.mid w (quiet_then files g id key v u1 m.mid pre m.ss pre_quiet m.quiet) (free_count m.ss few m.count) (free_now m.ss) (free_needed m.ss m.ts made_room.1) (way, first) why m.tried m.places
+        room_bypassed why (in_freed way k mid _ none f made_room count) =
+            let m = made_room.0 in
+            bypassed order is (slice_set states way 8) m.from m.until evicted (f.ss ++ m.ss) m.ts m.mid w (freed_quiet way mid m.mid m.ss f m.quiet) (freed_count way k mid m.ss f few m.count count) (free_then way f.ss m.ss none f.released) (freed_needed way mid m.ss m.ts none f made_room.1)
             (way, freed_first way f.inside len none) why (tried_all why f.ss m.ss m.from m.until m.tried) m.places
         room_bypassed why (in_none seen none s zero) =
             let P : ℕ → Type 0 = λ n. (steps : List WordStep) × IsFetch files g id key steps v w (ranged_by (Bypass (SetFull seen)) n (grip.Bypass key)) in

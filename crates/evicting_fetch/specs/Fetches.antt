@@ -23,9 +23,9 @@ use Rattle.cache_placement.specs.declared.why.Why.TheVariants.{NoRoom, Raced, Bu
 use Rattle.cache_placement.specs.Free.{IsOrder}
 use Rattle.cache_placement.specs.Placements.{HasNoRoom, IsArenaRaced, IsHeaderRaced}
 use Rattle.cache_placement.specs.Publications.{publications}
-use Rattle.cache_room.specs.Rooms.{counted}
 use Rattle.cache_room.specs.Touchings.{touchings}
-use Rattle.cache_room.specs.Tried.{IsTried, last_saw}
+use Rattle.cache_room.specs.Tried.{IsTried, last_saw, releases}
+use Rattle.evicting_fetch.specs.Needs.{IsNeeded, IsTaken}
 use Rattle.range_cache.specs.declared.ranged.Grip.{Grip}
 use Rattle.range_cache.specs.declared.ranged.Grip.TheVariants as grip
 use Rattle.range_cache.specs.declared.ranged.How.{How}
@@ -52,18 +52,23 @@ pub record IsEarly (P : List WordStep → Type 0) (ss : List WordStep) : Type 0 
   pub early : (header found : ℕ) → Among (EvictBegun header found) front → ⊥
   pub told : P front
 
--- Each way was tried. The first load of each way's state gave another word than that of a released header without a count, and these
--- are the words that the last steps on the ways' states found.
+-- No way of the set was free; each was tried, and none released. These are the words that the last steps on the ways' states found.
 pub record IsSetFull (g : Geometry) (key : Key) (ss : List WordStep) (states : List ℕ) : Type 0 where
-  pub first : (way : ℕ) → way < 8 → IsSomeAnd (first_load (header_word g (first_way g key + way)) (events g ss)) (λ word. word ≢ 8)
+  pub first : IsTaken g key ss
+  pub none : releases ss ≡ 0
   pub last : (way : ℕ) → way < 8 → last_saw (header_word g (first_way g key + way)) (events g ss) ≡ Some (slice_index states way)
   pub tried : (way : ℕ) → way < 8 → IsTried (first_way g key + way) ss
 
--- Each header was tried, and the last loads of the arenas' words show no free block of the order of the key's length.
+-- Each header was tried. Behind the last one that was released all arenas were asked, and these loads of their words show no free block of
+-- the order of the key's length.
 pub record IsNoRoom (g : Geometry) (key : Key) (ss : List WordStep) (words : List ℕ) : Type 0 where
   pub order : ℕ
   pub is_order : IsOrder g key.len order
-  pub room : HasNoRoom g order 0 g.arenas ss words
+  pub earlier : List WordStep
+  pub later : List WordStep
+  pub parts : ss ≡ earlier ++ later
+  pub none : releases later ≡ 0
+  pub room : HasNoRoom g order 0 g.arenas later words
   pub tried : (header : ℕ) → header < headers_of g → IsTried header ss
 
 -- The exchange on a way's state gave this word, not that of a released header without a count, which the first load of the state
@@ -133,8 +138,8 @@ IsLooked g key words new (Bypass PolicyOut) = ⊥
 
 -- The seat fetched a range by these steps, with that answer, and its trail grew by them and by no others. A pin of the key makes it a
 -- hit; a grant makes it filled, or the header was lost; an opening makes it filled; and one buffer is published where it is filled, and
--- else none. What is pinned is touched, once, and nothing else is. `evicted` counts the headers that were released. If the seat knows the
--- words, whether the range is in the cache follows from them as they are after the tick.
+-- else none. What is pinned is touched, once, and nothing else is. `evicted` counts the headers that were released, each of which was
+-- needed. If the seat knows the words, whether the range is in the cache follows from them as they are after the tick.
 pub record IsFetch (files : Option Files) (g : Geometry) (id : ℕ) (key : Key) (ss : List WordStep) (old new : View)
     (ranged : Ranged) : Type 0 where
   pub right : AreRight files g id key (IsHit ranged.how) old [] old ss new
@@ -146,7 +151,8 @@ pub record IsFetch (files : Option Files) (g : Geometry) (id : ℕ) (key : Key) 
   pub touched : touchings ss ≡ touched_for ranged.how
   pub trail : new.trail ≡ old.trail ++ events g ss
   pub clock : IsTicked ss ranged.held
-  pub evicted : ranged.evicted ≡ counted ss
+  pub evicted : ranged.evicted ≡ releases ss
+  pub needed : IsNeeded g key ss
   pub looked : (words : List ℕ) → old.known ≡ Some words → IsLooked g key (ticked g words) new ranged.how
 
 -- A fetch whose read failed ticked, made loads, and counts that it took back, and its trail grew by these: nothing but the clock has

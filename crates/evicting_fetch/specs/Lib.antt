@@ -1,3 +1,4 @@
 pub mod Evictors
+pub mod Needs
 pub mod Fetches
 pub mod Victims

@@ -1,4 +1,4 @@
-ghost use Rattle.std.specs.Prelude.{◌≡◌, None, IfOk, replicate};
+ghost use Rattle.std.specs.Prelude.{◌≡◌, ◌-◌, ◌^◌, ◌<◌, None, IfOk, replicate};
 ghost use Rattle.pool_rule.specs.Layout.{headers_of};
 ghost use Rattle.buffer_pool.specs.Pools.{IsSameSeat, IsSeatOf, seat_id, sizes_of, view};
 ghost use Rattle.cache_placement.specs.Placements.{HoldsPlaced};
@@ -53,6 +53,7 @@ impl Evictor {
         ensures seat { IsSameSeat pool.now seat.old seat.new }
         ensures evictor { IsEvictorOf pool.now self.new }
         ensures token { HoldsPlaced pool.now seat.new wanted.key result.placed }
+        ensures few { result.evicted < 2 ^ 32 - 1 }
         ensures room { IsRoom W.files (sizes_of pool.now) (seat_id seat.old) wanted (view seat.old) (view seat.new) result.evicted
             result.placed }
         ensures ranked { Ranks W.files (sizes_of pool.now) (seat_id seat.old) wanted.first (policy_of self.old) (policy_of self.new)

@@ -204,7 +204,7 @@ returns-in-Filled-clause-fetched g c =
     let t = touched files sizes id (seat_id c.place-placed.new.seat) c.header-in-Filled.result c.tick-now.result m.0 pin w x e3 c.header-in-Filled.ensures m.1 c.touch-in-Filled.ensures.made in
     let is = order_is sizes c.geometry-geometry.result key.len order c.geometry-geometry.ensures.sizes c.requires.fits c.order_for-order.ensures.holds c.order_for-order.ensures.least in
     as_range files sizes id key v x c.pinned-in-Filled.result (ranged_by Filled n (grip.Pin pin)) c.pinned-in-Filled.ensures
-    (room_filled files sizes id key m.0 v u0 (ticks files sizes id m.0 c.tick-now.result v u0 m.1 m.2) l.0 states u1 l.1 order is c.look_up.auto.states w n pin t.0 t.1 x room t.2)
+    (room_filled files sizes id key m.0 v u0 (ticks files sizes id m.0 c.tick-now.result v u0 m.1 m.2) l.0 states u1 l.1 order is c.look_up.auto.states w n c.place-placed.ensures.few pin t.0 t.1 x room t.2)
 
 pub returns-in-Filled-clause-bytes : goal.returns-in-Filled-clause-bytes
 returns-in-Filled-clause-bytes g c =
@@ -232,7 +232,7 @@ returns-in-Bypass-clause-fetched g c =
     let room = in_set files sizes id (seat_id c.look_up.new.seat) order c.first_header-first.result n c.geometry-geometry.result key states u1 w (placed.Bypass why) e2 c.first_header-first.ensures.first c.geometry-geometry.ensures.sizes (subst R c.in-Bypass.is c.place-placed.ensures.room) in
     let is = order_is sizes c.geometry-geometry.result key.len order c.geometry-geometry.ensures.sizes c.requires.fits c.order_for-order.ensures.holds c.order_for-order.ensures.least in
     as_range files sizes id key v w c.bypassed-in-Bypass.result (ranged_by (Bypass why) n (grip.Bypass key)) c.bypassed-in-Bypass.ensures
-    (room_bypassed files sizes id key m.0 v u0 (ticks files sizes id m.0 c.tick-now.result v u0 m.1 m.2) l.0 states u1 l.1 order is c.look_up.auto.states w n why room)
+    (room_bypassed files sizes id key m.0 v u0 (ticks files sizes id m.0 c.tick-now.result v u0 m.1 m.2) l.0 states u1 l.1 order is c.look_up.auto.states w n c.place-placed.ensures.few why room)
 
 pub returns-in_err-read_at-in-Busy-clause-failed : goal.returns-in_err-read_at-in-Busy-clause-failed
 returns-in_err-read_at-in-Busy-clause-failed g c =
