@@ -1,5 +1,5 @@
 -- How the counts of a desk grow with the reads of its store. Source: this project's own.
-use Rattle.std.specs.Prelude.{◌≡◌, ◌≤◌, ℕ, ◌+◌, ◌^◌, ◌-◌, List, length, Option, ◌⊎◌}
+use Rattle.std.specs.Prelude.{◌≡◌, ◌≤◌, ℕ, ◌+◌, List, length, Option, ◌⊎◌}
 use Rattle.outside.specs.declared.file_ref.FileRange.{FileRange}
 use Rattle.outside.specs.Told.{Extended}
 use Rattle.pool_model.specs.Content.{Files}
@@ -9,6 +9,7 @@ use Rattle.buffer_pool.specs.declared.seat.PoolSeat.{PoolSeat}
 use Rattle.buffer_pool.specs.Made.{AreMade}
 use Rattle.buffer_pool.specs.Pools.{seat_id, sizes_of, view}
 use Rattle.cache_placement.specs.Publications.{publications}
+use Rattle.cache_room.specs.Touchings.{touchings}
 use Rattle.cache_room.specs.Tried.{releases}
 use Rattle.range_cache.specs.Caches.{pool_of}
 use Rattle.ledgers.specs.declared.cache_totals.CacheTotals.{CacheTotals}
@@ -38,15 +39,21 @@ ReadsAreCounted W {S} files reads = (m n : Moment W S) (deeds : List Deed) → R
 abbrev pub FilledBy : CacheTotals → CacheTotals → ℕ → Type 0
 FilledBy old new count = (new.filled ≡ old.filled + count) ⊎ (new.filled ≡ last)
 
--- Evictions grew by so many, or stand at their end; or they are so many that the count of one fetch, of 32 bits, may stand at its end.
+-- evictions grew by so many, or stand at their end
 abbrev pub EvictedBy : CacheTotals → CacheTotals → ℕ → Type 0
-EvictedBy old new count = (new.evicted ≡ old.evicted + count) ⊎ (new.evicted ≡ last) ⊎ (2 ^ 32 - 1 ≤ count)
+EvictedBy old new count = (new.evicted ≡ old.evicted + count) ⊎ (new.evicted ≡ last)
 
--- The seat made these steps, one after the other and no others. Fills grew by the buffers that they published, and evictions by the
--- headers that they released; nothing was moved.
+-- hits grew by so many less so many, or stand at their end
+abbrev pub HitBy : CacheTotals → CacheTotals → ℕ → ℕ → Type 0
+HitBy old new count less = (new.hit + less ≡ old.hit + count) ⊎ (new.hit ≡ last)
+
+-- The seat made these steps, one after the other and no others. Fills grew by the buffers that they published, hits by the touches of
+-- other buffers, and evictions by the headers that they released; nothing was moved.
 pub record AreStepsCounted (files : Option Files) {W : Type 0} (pool : Pool W) (old new : PoolSeat W) (a b : CacheTotals) : Type 0 where
   pub steps : List WordStep
   pub made : AreMade files (sizes_of pool) (seat_id old) steps (view old) (view new)
+  pub same : seat_id new ≡ seat_id old
+  pub hit : HitBy a b (touchings steps) (publications steps)
   pub filled : FilledBy a b (publications steps)
   pub evicted : EvictedBy a b (releases steps)
   pub moved : a.moved ≤ last → b.moved ≡ a.moved
