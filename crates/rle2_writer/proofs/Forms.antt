@@ -1,13 +1,15 @@
 -- The forms of a run, as they are written.
-use Rattle.std.proofs.Common.{◌≡◌, ℕ, ◌+◌, ◌-◌, ◌*◌, ◌/◌, ◌%◌, ◌^◌, ◌<◌, ◌≤◌, List, [], ◌∷◌, ◌++◌, length, map, get_or, replicate, Result, Ok, Err, refl, sym, ap, subst, ◌∙◌, append_assoc, append-nil, arith, ℤ, pos, ◌+ℤ◌, ◌*ℤ◌, Bool, true, false, eqb, inl, inr, neg_ℤ, FitsSigned}
+use Rattle.std.proofs.Common.{◌≡◌, ℕ, ◌+◌, ◌-◌, ◌*◌, ◌/◌, ◌%◌, ◌^◌, ◌<◌, ◌≤◌, List, [], ◌∷◌, ◌++◌, length, map, get_or, replicate, take, Result, Ok, Err, refl, sym, ap, subst, ◌∙◌, append_assoc, append-nil, drop, arith, ℤ, pos, ◌+ℤ◌, ◌*ℤ◌, Bool, true, false, eqb, inl, inr, neg_ℤ, FitsSigned}
 use Rattle.std.specs.Prelude.{OnOk}
 use Rattle.std.specs.Int.{w64, cast_signed, int_wrap}
 use Rattle.std.proofs.lemmas.Int.{int_wrap_fits, ints}
 use Rattle.std.proofs.lemmas.Bool.{cases_eq, eq-eqb, ne_eqb}
 use Rattle.std.proofs.lemmas.List.{length-replicate, get_or-replicate}
 use Rattle.std.proofs.lemmas.List.FromFn.{fill_by_all}
+use Rattle.std.proofs.Math.Seq.{take-length}
 use Rattle.outside.specs.Varint.{IsVarint}
-use Rattle.orc_integers.specs.Integers.{integer, zigzag, ramp}
+use Rattle.orc_integers.specs.Integers.{integer, zigzag, ramp, wrapped_sum}
+use Rattle.orc_rle2.specs.Integers.{sums, with_sign}
 use Rattle.orc_rle2.specs.IntRun2.{IntRun2, direct, short_repeat, delta, code_of, run_len, delta_values, magnitude_len, magnitudes_in}
 use Rattle.orc_rle2.specs.Packed.{number_of, packed_len, unpacked}
 use Rattle.orc_rle2.specs.Widths.{width_of}
@@ -128,3 +130,70 @@ pub flat_run : (signed : Bool) (before after : List ℕ) (count number : ℕ) (v
 flat_run signed before after count number value h is adds =
     let fits : FitsSigned w64 value = subst (λ (z : ℤ). FitsSigned w64 z) is (integer_fits signed number h) in
     subst (λ (l : List ℤ). Adds (IntRun2 signed) before after l) (flat_ramp value count fits) adds
+
+-- ---- delta, with steps
+
+steps_front : (code count : ℕ) → code < 32 → 0 < count → count ≤ 512 → (192 ≤ 192 + 2 * code + (count - 1) / 256) × (192 + 2 * code + (count - 1) / 256 < 256) × (code_of (192 + 2 * code + (count - 1) / 256) ≡ code) × (run_len (192 + 2 * code + (count - 1) / 256) ((count - 1) % 256) ≡ count)
+steps_front code count low some most = (omega arith, omega arith, omega arith, omega arith)
+
+first_and_rest : (values : List ℤ) → 0 < length values → get_or values 0 (pos 0) ∷ drop 1 values ≡ values
+first_and_rest [] h = absurd (omega (arith, h))
+first_and_rest (v ∷ values) h = refl
+
+joined_four : (a b c d e : List ℕ) → a ++ b ++ c ++ d ++ e ≡ a ++ (b ++ (c ++ (d ++ e)))
+joined_four a b c d e = append_assoc (a ++ b ++ c) d e ∙ append_assoc (a ++ b) c (d ++ e) ∙ append_assoc a b (c ++ (d ++ e))
+
+-- a run whose code isn't 0 varies its steps
+varied_is : (base step : ℤ) (code count : ℕ) (body : List ℕ) → 0 < code → 2 ≤ count → delta_values base step code count (magnitudes_in code count body) ≡ base ∷ sums (wrapped_sum base step) (map (with_sign step) (unpacked (width_of code) (count - 2) body))
+varied_is base step code count body some more =
+    let a : eqb code 0 ≡ false = ne_eqb code 0 (λ e. absurd (omega (arith, e, some))) in
+    let b : eqb count 1 ≡ false = ne_eqb count 1 (λ e. absurd (omega (arith, e, more))) in
+    rw a (rw b refl)
+
+magnitude_len_is : (code count : ℕ) → 0 < code → magnitude_len code count ≡ packed_len (width_of code) (count - 2)
+magnitude_len_is code count some =
+    let a : eqb code 0 ≡ false = ne_eqb code 0 (λ e. absurd (omega (arith, e, some))) in
+    rw a refl
+
+pub steps_run : (signed : Bool) (before second_at third_at fourth_at after : List ℕ) (code start step : ℕ) (delta_is : ℤ) (numbers : List ℕ) (values : List ℤ) → 0 < code → code < 32 → 2 ≤ length values → length values ≤ 512
+    → length numbers ≡ length values - 2 → ((k : ℕ) → get_or numbers k 0 < 2 ^ width_of code) → integer signed start ≡ get_or values 0 (pos 0) → zigzag step ≡ delta_is
+    → get_or values 1 (pos 0) ≡ wrapped_sum (get_or values 0 (pos 0)) delta_is → sums (get_or values 1 (pos 0)) (map (with_sign delta_is) numbers) ≡ drop 1 values
+    → second_at ≡ before ++ (192 + 2 * code + (length values - 1) / 256) ∷ (length values - 1) % 256 ∷ [] → Adds IsVarint second_at third_at start → Adds IsVarint third_at fourth_at step → Adds (Packs (width_of code)) fourth_at after numbers
+    → Adds (IntRun2 signed) before after values
+steps_run signed before second_at third_at fourth_at after code start step delta_is numbers values some low more most len below start_is step_is second_is made front one two packs =
+    let count = length values in
+    let head = 192 + 2 * code + (count - 1) / 256 in
+    let second = (count - 1) % 256 in
+    let facts = steps_front code count low (omega (arith, more)) most in
+    let body = packs.0 in
+    let packed = Packs-unpacked (width_of code) body numbers below packs.2 in
+    let body_len : length body ≡ magnitude_len (code_of head) (run_len head second) =
+    packed.0 ∙ ap (packed_len (width_of code)) len ∙ sym (magnitude_len_is code count some) ∙ ap (λ (n : ℕ). magnitude_len n count) (sym facts.2) ∙ ap (magnitude_len (code_of head)) (sym facts.3) in
+    let run : IntRun2 signed (head ∷ second ∷ (one.0 ++ (two.0 ++ body))) (delta_values (integer signed start) (zigzag step) (code_of head) (run_len head second) (magnitudes_in (code_of head) (run_len head second) body)) =
+    delta head second start step one.0 two.0 body facts.0 facts.1 one.2 two.2 body_len in
+    let same : unpacked (width_of code) (count - 2) body ≡ numbers = ap (λ (n : ℕ). unpacked (width_of code) n body) (sym len) ∙ packed.1 in
+    let first = integer signed start in
+    let values_are : delta_values first (zigzag step) (code_of head) (run_len head second) (magnitudes_in (code_of head) (run_len head second) body) ≡ values =
+    ap (λ (n : ℕ). delta_values first (zigzag step) n (run_len head second) (magnitudes_in n (run_len head second) body)) facts.2
+    ∙ ap (λ (n : ℕ). delta_values first (zigzag step) code n (magnitudes_in code n body)) facts.3
+    ∙ varied_is first (zigzag step) code count body some more
+    ∙ ap (λ (l : List ℕ). first ∷ sums (wrapped_sum first (zigzag step)) (map (with_sign (zigzag step)) l)) same
+    ∙ ap (λ (z : ℤ). z ∷ sums (wrapped_sum z (zigzag step)) (map (with_sign (zigzag step)) numbers)) start_is
+    ∙ ap (λ (z : ℤ). get_or values 0 (pos 0) ∷ sums (wrapped_sum (get_or values 0 (pos 0)) z) (map (with_sign z) numbers)) step_is
+    ∙ ap (λ (z : ℤ). get_or values 0 (pos 0) ∷ sums z (map (with_sign delta_is) numbers)) (sym second_is)
+    ∙ ap (λ (l : List ℤ). get_or values 0 (pos 0) ∷ l) made
+    ∙ first_and_rest values (omega (arith, more)) in (
+      head ∷ second ∷ (one.0 ++ (two.0 ++ body)),
+      packs.1 ∙ ap (λ (l : List ℕ). l ++ body) two.1 ∙ ap (λ (l : List ℕ). l ++ two.0 ++ body) one.1 ∙ ap (λ (l : List ℕ). l ++ one.0 ++ two.0 ++ body) front ∙ joined_four before (head ∷ second ∷ []) one.0 two.0 body,
+      subst (λ (l : List ℤ). IntRun2 signed (head ∷ second ∷ (one.0 ++ (two.0 ++ body))) l) values_are run,
+    )
+
+-- the values behind the first are a slice of them
+pub behind_first : (values : List ℤ) (delta_is : ℤ) (numbers : List ℕ) → 2 ≤ length values → sums (get_or (take (length values - 1) (drop 1 values)) 0 (pos 0)) (map (with_sign delta_is) numbers) ≡ take (length values - 1) (drop 1 values)
+    → sums (get_or values 1 (pos 0)) (map (with_sign delta_is) numbers) ≡ drop 1 values
+behind_first [] delta_is numbers more h = absurd (omega (arith, more))
+behind_first (v ∷ []) delta_is numbers more h = absurd (omega (arith, more))
+behind_first (v ∷ w ∷ values) delta_is numbers more h =
+    let n : length (v ∷ w ∷ values) - 1 ≡ length (w ∷ values) = omega arith in
+    let e : take (length (v ∷ w ∷ values) - 1) (drop 1 (v ∷ w ∷ values)) ≡ w ∷ values = ap (λ (n : ℕ). take n (w ∷ values)) n ∙ take-length (w ∷ values) in
+    subst (λ (l : List ℤ). sums (get_or l 0 (pos 0)) (map (with_sign delta_is) numbers) ≡ l) e h

@@ -6,9 +6,10 @@ ghost use Rattle.orc_integers.specs.Integers.{ramp};
 ghost use Rattle.orc_rle2.specs.IntRun2.{IntRun2};
 ghost use Rattle.rle_writer.specs.Written.{Adds, AddsRun};
 
-use crate::choice::{MOST, front_of, is_worth, literal_len};
+use crate::choice::{MOST, starts_ramp, uneven_len};
 use crate::direct::{put_direct, put_repeat};
-use crate::steps::put_ramp;
+use crate::sizes::are_told_by_steps;
+use crate::steps::{put_ramp, put_steps};
 use outside::NoMemory;
 use rle_writer::{first_step, ramp_len};
 use std::alloc::Global;
@@ -16,7 +17,8 @@ use std::alloc::Global;
 /// The stream of these integers, version 2, in whole runs that hold no value past them.
 ///
 /// Values of equal steps are a run of their own where that takes fewer bytes: a short repeat, or a delta run. Other values
-/// are a direct run, in the least width that holds them. Answers `NoMemory` where memory was refused.
+/// are a delta run with their steps where they go one way and that is shorter, and else a direct run, each in the least width
+/// that holds them. Answers `NoMemory` where memory was refused.
 ///
 /// Source: Apache ORC specification v1, "Integer Run Length Encoding, version 2".
 pub fn write_integers2(alloc: Global, signed: bool, values: &[i64]) -> Result<Vec<u8>, NoMemory>
@@ -37,13 +39,25 @@ fn put_run(out: &mut Vec<u8>, signed: bool, values: &[i64]) -> Result<usize, NoM
 {
     let step = first_step(values);
     let len = ramp_len(values, step, MOST);
-    if len >= 3 && is_worth(signed, &values[..len], step, front_of(&values[len..]), 2) {
+    if len >= 3 && starts_ramp(signed, values, step, len) {
         put_equal_steps(out, signed, &values[0], step, len)?;
         return Ok(len);
     }
-    let len = literal_len(signed, values);
-    put_direct(out, signed, &values[..len])?;
+    let len = uneven_len(signed, values);
+    put_uneven(out, signed, &values[..len])?;
     Ok(len)
+}
+
+/// Adds a run of any values, in the shorter of its two forms.
+fn put_uneven(out: &mut Vec<u8>, signed: bool, values: &[i64]) -> Result<(), NoMemory>
+    requires some { 0 < length values.now }
+    requires most { length values.now ≤ 512 }
+    ensures { OnOk result (Adds (IntRun2 signed) out.old.items out.new.items values.now) }
+{
+    if values.len() > 2 && are_told_by_steps(signed, values) {
+        return put_steps(out, signed, values);
+    }
+    put_direct(out, signed, values)
 }
 
 /// Adds a run of equal steps, in the shorter of its two forms.

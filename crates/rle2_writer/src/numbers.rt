@@ -26,3 +26,15 @@ pub(crate) fn greatest(numbers: &[u64]) -> u64
     }
     most
 }
+
+/// The greatest of the numbers that stand for these values, or 0.
+pub(crate) fn greatest_of(signed: bool, values: &[i64]) -> u64 {
+    let mut most = 0;
+    for value in values {
+        let number = number_of(signed, value);
+        if number > most {
+            most = number;
+        }
+    }
+    most
+}

@@ -1,11 +1,11 @@
 use Rattle.std.proofs.Common.{◌-◌, ◌<◌, ◌≤◌, length}
-use Rattle.rle2_writer.proofs.choice.literal_len.Given as goal
+use Rattle.rle2_writer.proofs.stretches.stretch_len.Given as goal
 
 abbrev pub invariant-loop-len : goal.invariant-loop-len
 invariant-loop-len l = record {
   some : 0 < l.len;
   within : l.len ≤ length l.values;
-  most : l.len ≤ 512;
+  most : l.len ≤ l.most;
 }
 
 abbrev pub decreases-loop-len : goal.decreases-loop-len

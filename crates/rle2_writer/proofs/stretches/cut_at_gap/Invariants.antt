@@ -1,0 +1,11 @@
+use Rattle.std.proofs.Common.{◌<◌, ◌≤◌, length}
+use Rattle.rle2_writer.proofs.stretches.cut_at_gap.Given as goal
+
+abbrev pub invariant-loop-len : goal.invariant-loop-len
+invariant-loop-len l = record {
+  some : 0 < l.len;
+  within : l.len ≤ length l.stretch;
+}
+
+abbrev pub decreases-loop-len : goal.decreases-loop-len
+decreases-loop-len l = l.len
