@@ -52,6 +52,7 @@ pub fn read_header<F: Feed>(feed: &mut F, stream: u32) -> Result<Header, RunFaul
 }
 
 /// The header that is the front of these bytes, and the bytes behind it; `None` where no whole header is.
+#[inline(always)]
 pub fn header_in<'a>(bytes: &'a [u8]) -> Option<(Header, &'a [u8])>
     ensures reads { IfSome result (λ p. ReadsIn run_header bytes.now p.0 p.1.now) }
     ensures bounded { IfSome result (λ p. IsBounded p.0) }
@@ -67,6 +68,7 @@ pub fn header_in<'a>(bytes: &'a [u8]) -> Option<(Header, &'a [u8])>
 }
 
 /// What the first byte of a short repeat says.
+#[inline(always)]
 fn short_header(first: u8) -> Header
     requires { first < 64 }
     ensures value { result ≡ Repeat (first / 8 + 1) (first % 8 + 3) }
@@ -81,6 +83,7 @@ fn short_header(first: u8) -> Header
 }
 
 /// What the first two bytes of a form but short repeat say.
+#[inline(always)]
 fn long_header(first: u8, second: u8) -> Header
     ensures value { result ≡ long_header first (code_of first) (run_len first second) }
     ensures bounded { IsBounded result }

@@ -11,7 +11,7 @@ ghost use Rattle.orc_rle2.specs.Widths.{IsWidth};
 use orc_integers::bits_of;
 use outside::{Feed, RunFault, take_exactly};
 
-/// So many values or fewer are taken with a small buffer, which has room for them at any width.
+/// So many values or fewer are unpacked one by one, and taken with a small buffer, which has room for them at any width.
 const FEW: usize = 32;
 
 /// The number in at most eight bytes, big endian.
@@ -39,6 +39,7 @@ fn word_at(bytes: &[u8], at: usize) -> u64
 }
 
 /// The number at an index, of numbers of this width. The mask has as many low bits.
+#[inline(always)]
 fn value_at(bytes: &[u8], width: u32, mask: u64, index: usize) -> u64
     requires width { IsWidth width }
     requires mask { mask ≡ 2 ^ width - 1 }
@@ -91,13 +92,29 @@ fn unpack(bytes: &[u8], width: u32, signed: bool, into: &mut [i64])
     }
 }
 
-/// Unpacks as `unpack` does, by code of its own for each width.
+/// Unpacks as `unpack` does, number by number: what that prepares for groups doesn't pay where there are few.
+fn unpack_few(bytes: &[u8], width: u32, signed: bool, into: &mut [i64])
+    requires width { IsWidth width }
+    requires few { length into.old ≤ 512 }
+    requires room { packed_len width (length into.old) + 8 ≤ length bytes.now }
+    ensures { into.new ≡ map (integer signed) (unpacked width (length into.old) bytes.now) }
+{
+    let mask = low_bits(width);
+    for i in 0..into.len() {
+        into[i] = bits_of(signed, value_at(bytes, width, mask, i)).cast_signed();
+    }
+}
+
+/// Unpacks as `unpack` does, by code of its own for each width where there are many numbers.
 fn unpack_by_width(bytes: &[u8], width: u32, signed: bool, into: &mut [i64])
     requires width { IsWidth width }
     requires few { length into.old ≤ 512 }
     requires room { packed_len width (length into.old) + 8 ≤ length bytes.now }
     ensures { into.new ≡ map (integer signed) (unpacked width (length into.old) bytes.now) }
 {
+    if into.len() <= FEW {
+        return unpack_few(bytes, width, signed, into);
+    }
     match width {
         1 => unpack(bytes, 1, signed, into),
         2 => unpack(bytes, 2, signed, into),

@@ -41,6 +41,7 @@ pub fn give_runs_in<'a>(
 
 /// Gives values of the run that is the front of these bytes, and holds the others; answers how many were given, and
 /// the bytes behind the run. `None` where no whole run stands there, and then none is held.
+#[inline(always)]
 fn give_run_in<'a>(
     bytes: &'a [u8],
     signed: bool,
@@ -65,6 +66,7 @@ fn give_run_in<'a>(
 
 /// Reads what follows the header of a run into `held`, and gives the first of its values, as many as there is room
 /// for; else as `give_run_in`.
+#[inline(never)]
 fn hold_run_in<'a>(
     bytes: &'a [u8],
     signed: bool,
@@ -100,6 +102,7 @@ fn hold_run_in<'a>(
 ///
 /// `None` where it isn't there whole, or is of a form that isn't read in place: patched, or deltas with magnitudes.
 /// Then what `into` holds isn't promised.
+#[inline(always)]
 fn body_in<'a>(bytes: &'a [u8], signed: bool, header: Header, into: &mut [i64]) -> Option<&'a [u8]>
     requires bounded { IsBounded header }
     requires room { length into.old ≡ count_of header }
@@ -114,6 +117,7 @@ fn body_in<'a>(bytes: &'a [u8], signed: bool, header: Header, into: &mut [i64]) 
     }
 }
 
+#[inline(always)]
 fn repeat_in<'a>(bytes: &'a [u8], signed: bool, len: u32, into: &mut [i64]) -> Option<&'a [u8]>
     requires { len ≤ 8 }
     ensures { IfSome result (λ left. ReadsIn (repeat_body signed len (length into.old)) bytes.now into.new left.now) }
@@ -127,6 +131,7 @@ fn repeat_in<'a>(bytes: &'a [u8], signed: bool, len: u32, into: &mut [i64]) -> O
 }
 
 /// Reads a run of equal deltas.
+#[inline(always)]
 fn ramp_in<'a>(bytes: &'a [u8], signed: bool, code: u32, into: &mut [i64]) -> Option<&'a [u8]>
     ensures { IfSome result (λ left. ReadsIn (delta_body signed code (length into.old)) bytes.now into.new left.now) }
 {
