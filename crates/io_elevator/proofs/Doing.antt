@@ -1,12 +1,12 @@
 -- What a call did through a desk of its own, by the elevator's references.
-use Rattle.std.proofs.Common.{◌≡◌, ℕ, List, [], ◌∷◌, length, refl, sym, ◌∙◌, subst}
-use Rattle.std.specs.Prelude.{Option, None, Result, Ok, Err, is_ok, map, slice_set}
+use Rattle.std.proofs.Common.{◌≡◌, ℕ, ◌+◌, ◌<◌, ◌≤◌, List, [], ◌∷◌, length, refl, sym, ap, ◌∙◌, subst}
+use Rattle.std.specs.Prelude.{Option, None, Some, Result, Ok, Err, is_ok, map, slice_index_or, slice_set}
 use Rattle.std.proofs.lemmas.List.{append-nil, length-map}
 use Rattle.outside.specs.declared.failed.Failed.{Failed}
 use Rattle.outside.specs.declared.file_ref.FileRange.{FileRange}
 use Rattle.outside.specs.declared.store.Store.{Ghosts}
-use Rattle.outside.specs.Feed.{taken_by}
-use Rattle.pool_model.specs.Content.{Files}
+use Rattle.outside.specs.Feed.{Lost, taken_by, taken_of}
+use Rattle.pool_model.specs.Content.{Files, told_bytes}
 use Rattle.orc_streams.specs.Acts.{Act, closes, opens, reads, takes}
 use Rattle.held_ranges.specs.declared.desk.Desk.{Desk}
 use Rattle.held_ranges.specs.Deeds.{Deed, Keys, drops, drops_each, gets, left_of, misses}
@@ -18,8 +18,9 @@ use Rattle.cut_streams.specs.Went.{Went}
 use Rattle.io_elevator.specs.declared.elevator.Elevator.{Elevator}
 use Rattle.io_elevator.specs.Books.{Books, ClosesBy, Fits, ReadFits, Suits, cursor_at}
 use Rattle.io_elevator.specs.Elevator.{Did, as_named, books_of, desk_of, moment_of}
-use Rattle.io_elevator.specs.Laws.{ran_named, same_desk, same_then}
-use Rattle.io_elevator.proofs.Streams.{all_left}
+use Rattle.io_elevator.specs.Laws.{Fed, ran_named, same_desk, same_then}
+use Rattle.io_elevator.specs.Sound.{AreCutBy, StreamOf, cursors_of, rest_at}
+use Rattle.io_elevator.proofs.Streams.{all_left, at_set, cursor_is, inside_past, lost_by, set_itself, takes_as, takes_past}
 
 pub did_by : {W S : Type 0} {G : Ghosts S W} (files : Option Files) (log : S → Option (List FileRange)) (first last : Elevator W S G) (acts : List Act)
     {d0 d1 : Desk W S} {s0 s1 : Slots} (So : List Deed → Keys → Type 0) → Went files log (moment d0 s0) (moment d1 s1) So
@@ -78,6 +79,17 @@ fits_take chunk stream b d (Err e) ds t cursors =
     let s : Suits chunk (takes (taken_by stream (Err e))) b ds d = (cursor_at d.cursors stream, (refl, (e, t)), cursors) in
     fits_one chunk b d (takes (taken_by stream (Err e))) ds s
 
+-- a take of a stream that there isn't
+pub fits_past : (chunk stream : ℕ) (b : Books) → length b.cursors ≤ stream → Fits chunk b (takes (taken_by stream (Ok 0)) ∷ []) [] b
+fits_past chunk stream b past =
+    fits_take chunk stream b b (Ok 0) [] (takes_past chunk stream b.cursors b.keys past) (set_itself b.cursors stream)
+
+pub lost_past : (files : Option Files) (chunk stream : ℕ) (b : Books) → length b.cursors ≤ stream → (other : ℕ)
+    → Lost (taken_of other (taken_by stream (Ok 0) ∷ [])) (rest_at files (cursor_at b.cursors other)) (rest_at files (cursor_at b.cursors other))
+lost_past files chunk stream b past =
+    lost_by files chunk stream b.cursors b.cursors b.keys b.keys [] (Ok 0) (takes_past chunk stream b.cursors b.keys past)
+    (set_itself b.cursors stream) (inside_past files b.cursors stream past)
+
 module _ (files : Option Files) {W S : Type 0} (log : S → Option (List FileRange)) where
   -- the same deeds, in other words
   pub went_as : (m n : Moment W S) (A B : List Deed → Keys → Type 0) → ((ds : List Deed) → A ds (keys_of n.slots) → B ds (keys_of n.slots))
@@ -93,6 +105,20 @@ module _ (files : Option Files) {W S : Type 0} (log : S → Option (List FileRan
   ran_same [] m n e = subst (λ (x : Moment W S). SameDesk m.desk x.desk) (sym e) (same_desk m.desk)
   ran_same (d ∷ ds) m n x = same_then m.desk x.0.desk n.desk (does_same d m x.0 x.1) (ran_same ds x.0 n x.2)
 
+  -- a stream of a list was taken from, through its slot
+  pub went_at : (m n : Moment W S) (streams : List StreamOf) (slot chunk : ℕ) (old new d : StreamOf) (r : Result ℕ Failed)
+      → slot < length streams → AreCutBy chunk streams → old ≡ slice_index_or streams slot d
+      → Went files log m n (TakesBy old.chunk slot old.cursor (keys_of m.slots) r new.cursor)
+      → Went files log m n (TakesBy chunk slot (cursor_at (cursors_of streams) slot) (keys_of m.slots) r
+      (cursor_at (cursors_of (slice_set streams slot new)) slot))
+  went_at m n streams slot chunk old new d r below cut is w =
+      let by : old.chunk ≡ chunk = ap (λ (s : StreamOf). s.chunk) is ∙ cut slot d below in
+      went_as m n _ _
+      (λ ds t. takes_as old.chunk chunk slot old.cursor (cursor_at (cursors_of streams) slot) new.cursor
+      (cursor_at (cursors_of (slice_set streams slot new)) slot) (keys_of m.slots) (keys_of n.slots) r ds by
+      (sym (cursor_is streams slot old d below is)) (sym (at_set streams slot new below)) t)
+      w
+
   -- all slots let go
   pub let_go : (m n : Moment W S) → Ran files log m (drops_each None 0 (keys_of m.slots)) n → AreEmpty n.slots → length n.slots ≡ length m.slots
       → Went files log m n (ClosesBy (keys_of m.slots))
@@ -102,4 +128,30 @@ module _ (files : Option Files) {W S : Type 0} (log : S → Option (List FileRan
         ran = ran;
         so = (refl, all_left n.slots (keys_of m.slots) none (same ∙ sym (length-map m.slots key_of)));
         same = ran_same (drops_each None 0 (keys_of m.slots)) m n ran;
+      }
+
+module _ {W S : Type 0} {G : Ghosts S W} (files : Option Files) (log : S → Option (List FileRange)) where
+  -- a take by a desk of its own
+  pub fed_by : (first last : Elevator W S G) (stream : ℕ) (r : Result ℕ Failed) {d0 d1 : Desk W S}
+      → (w : Went files log (moment d0 first.scratch.now.slots.items) (moment d1 last.scratch.now.slots.items)
+      (TakesBy first.chunk stream (cursor_at (cursors_of first.scratch.now.streams.items) stream) (keys_of first.scratch.now.slots.items) r
+      (cursor_at (cursors_of last.scratch.now.streams.items) stream)))
+      → d0.cache.now ≡ first.cache.now → as_named (desk_of first) (moment d0 first.scratch.now.slots.items) ≡ moment_of first
+      → as_named (desk_of first) (moment d1 last.scratch.now.slots.items) ≡ as_named (desk_of first) (moment_of last)
+      → SameDesk (desk_of first) (desk_of last) → last.scratch.ghost_name ≡ first.scratch.ghost_name → last.chunk ≡ first.chunk
+      → cursors_of last.scratch.now.streams.items ≡ slice_set (cursors_of first.scratch.now.streams.items) stream
+      (cursor_at (cursors_of last.scratch.now.streams.items) stream)
+      → ((file : List ℕ) → told_bytes files (cursor_at (cursors_of first.scratch.now.streams.items) stream).range.file ≡ Some file
+      → 0 < (cursor_at (cursors_of first.scratch.now.streams.items) stream).range.len
+      → (cursor_at (cursors_of first.scratch.now.streams.items) stream).range.at
+      + (cursor_at (cursors_of first.scratch.now.streams.items) stream).range.len ≤ length file)
+      → Fed files log first (taken_by stream r ∷ []) last
+  fed_by first last stream r w cache begins ends same scratch chunk cursors inside =
+      let before : List Cursor = cursors_of first.scratch.now.streams.items in
+      let after : List Cursor = cursors_of last.scratch.now.streams.items in
+      record {
+        did = did_by files log first last _ _ w cache begins ends same scratch chunk
+            (λ ds t. fits_take first.chunk stream (books_of first) (books_of last) r ds t cursors);
+        lost = lost_by files first.chunk stream before after (keys_of first.scratch.now.slots.items)
+            (keys_of last.scratch.now.slots.items) w.deeds r w.so cursors inside;
       }

@@ -1,13 +1,13 @@
 -- Where streams stand after one of them was changed, and what is left of them.
 use Rattle.std.proofs.Common.{◌≡◌, ◌≢◌, ℕ, zero, suc, ◌+◌, ◌-◌, ◌<◌, ◌≤◌, inl, inr, Bool, true, false, List, [], ◌∷◌, length, refl, sym, ap, ◌∙◌, subst, arith}
-use Rattle.std.specs.Prelude.{◌==◌, ◌++◌, if◌then◌else◌, map, take, drop, Option, None, Some, Result, Ok, Err, IfOk, MatchResult, option_map, slice_index_or, slice_range, slice_set}
+use Rattle.std.specs.Prelude.{◌==◌, ◌++◌, if◌then◌else◌, map, take, drop, Option, None, Some, Result, Ok, Err, IfOk, IfSome, MatchResult, option_map, slice_index_or, slice_range, slice_set}
 use Rattle.std.proofs.lemmas.Bool.{cases_eq, cases_lt, eq-eqb}
 use Rattle.std.proofs.lemmas.List.{drop-drop, drop-take, get_or-set_other, get_or-set_same, length-drop, length-map, length-set, length-take, map-set, set-get_or}
 use Rattle.std.proofs.lemmas.Option.{none-some}
 use Rattle.std.proofs.Math.Seq.{take-add}
 use Rattle.outside.specs.declared.failed.Failed.{Failed}
 use Rattle.outside.specs.declared.file_ref.FileRef.{FileRef}
-use Rattle.outside.specs.Feed.{Lost, Took, taken_by, taken_of}
+use Rattle.outside.specs.Feed.{Ends, IsFront, Lost, Took, taken_by, taken_of}
 use Rattle.outside.specs.Files.{HasBytes, IsFile, bytes_of, range_of}
 use Rattle.outside.specs.FeedLaws.{Lost-nothing}
 use Rattle.buffer_word.specs.declared.key_word.Key.{Key}
@@ -23,7 +23,7 @@ use Rattle.range_cuts.specs.Cuts.{begun, cuts_from}
 use Rattle.held_ranges.specs.Deeds.{Deed, Keys, left_of, others}
 use Rattle.held_ranges.specs.Moments.{AreEmpty, IsHeld, IsHolding, Slots, held_header, key_of, keys_of}
 use Rattle.cut_streams.specs.declared.cursor.Cursor.{Cursor}
-use Rattle.cut_streams.specs.Streams.{TakesBy, closed, opened}
+use Rattle.cut_streams.specs.Streams.{TakesBy, closed, next_bytes, opened}
 use Rattle.cut_streams.specs.Visits.{IsChunk, got_each, held_after}
 use Rattle.io_elevator.specs.Books.{cursor_at}
 use Rattle.io_elevator.specs.Sound.{AreCutBy, IsFresh, StreamOf, cursors_of, rest_at, shut}
@@ -156,6 +156,19 @@ lost_on (Some file) a n c fits inside =
           ∙ ap (λ (k : ℕ). drop n (take k (drop a file))) e,
     )
 
+-- no byte comes only at the stream's end
+ends_at : (o : Option (List ℕ)) (at taken len room n : ℕ) → (0 < room → n ≡ 0 → len ≤ taken)
+    → Ends (option_map (λ (file : List ℕ). slice_range file (at + taken) (at + len)) o) room n
+ends_at None at taken len room n over = tt
+ends_at (Some file) at taken len room n over = λ some none.
+    let e : at + len - (at + taken) ≡ 0 = omega (arith, over some none) in
+    ap (λ (k : ℕ). take k (drop (at + taken) file)) e
+
+pub ends_by : (files : Option Files) (c : Cursor) (room : ℕ) (r : Result ℕ Failed)
+    → IfOk r (λ n. 0 < room → n ≡ 0 → c.range.len ≤ c.taken) → IfOk r (Ends (rest_at files c) room)
+ends_by files c room (Ok n) over = ends_at (bytes_of files c.range.file) c.range.at c.taken c.range.len room n over
+ends_by files c room (Err e) over = over
+
 module _ (files : Option Files) (chunk stream : ℕ) (c d : Cursor) (keys keys' : Keys) (ds : List Deed) where
   pub took_by : (r : Result ℕ Failed) (into : List ℕ) → TakesBy chunk stream c keys r d ds keys'
       → IfOk r (λ n. (file : List ℕ) → told_bytes files c.range.file ≡ Some file → take n into ≡ slice_range file (c.range.at + c.taken) (c.range.at + c.taken + n))
@@ -211,6 +224,31 @@ lost_by files chunk stream b d keys keys' ds r t set inside other =
           subst (λ (k : ℕ). Lost k (rest_at files (cursor_at b other)) (rest_at files (cursor_at d other))) (sym (no_len ((taken_by stream r).stream == other) (taken_by stream r).len none))
           (subst (λ (x : Cursor). Lost 0 (rest_at files (cursor_at b other)) (rest_at files x)) (sym away) (Lost-nothing (rest_at files (cursor_at b other))))
     ]
+
+-- what is lent of a stream is a front of what is left
+take_take : (n m : ℕ) (xs : List ℕ) → n ≤ m → take n (take m xs) ≡ take n xs
+take_take zero m xs le = refl
+take_take (suc n) zero xs le = absurd (omega (arith, le))
+take_take (suc n) (suc m) [] le = refl
+take_take (suc n) (suc m) (x ∷ xs) le = ap (λ (ys : List ℕ). x ∷ ys) (take_take n m xs (omega (arith, le)))
+
+pub nothing_lent : (o : Option (List ℕ)) → IfSome o (IsFront [])
+nothing_lent None = tt
+nothing_lent (Some whole) = refl
+
+front_of : (o : Option (List ℕ)) (at taken len : ℕ) (lent : List ℕ) → taken + length lent ≤ len
+    → ((file : List ℕ) → o ≡ Some file → lent ≡ slice_range file (at + taken) (at + taken + length lent))
+    → IfSome (option_map (λ (file : List ℕ). slice_range file (at + taken) (at + len)) o) (IsFront lent)
+front_of None at taken len lent fits are = tt
+front_of (Some file) at taken len lent fits are =
+    let e : at + taken + length lent - (at + taken) ≡ length lent = omega arith in
+    are file refl ∙ ap (λ (n : ℕ). take n (drop (at + taken) file)) e
+    ∙ sym (take_take (length lent) (at + len - (at + taken)) (drop (at + taken) file) (omega (arith, fits)))
+
+pub lent_front : (files : Option Files) (c : Cursor) (lent : List ℕ) → c.taken + length lent ≤ c.range.len
+    → ((file : List ℕ) → told_bytes files c.range.file ≡ Some file → lent ≡ next_bytes c (length lent) file) → IfSome (rest_at files c) (IsFront lent)
+lent_front files c lent fits are =
+    front_of (bytes_of files c.range.file) c.range.at c.taken c.range.len lent fits (λ file e. are file (told_is files c.range.file ∙ e))
 
 -- ---- a stream that there isn't
 

@@ -7,7 +7,7 @@ ghost use Rattle.cut_streams.specs.Visits.{IsChunk};
 ghost use Rattle.io_elevator.specs.Sound.{AreCutBy, AreHeld, held_once};
 
 use crate::Scratch;
-use crate::scratch::{chunk_for, close_scratch, take_at};
+use crate::scratch::{chunk_for, close_scratch, skip_at, take_at};
 use cut_streams::visit_cuts;
 use evicting_fetch::Evictor;
 use held_ranges::Desk;
@@ -183,6 +183,29 @@ impl<'a, W: World, S: Store<W>> Feed for Elevator<'a, W, S> {
             totals: &mut *self.totals,
         };
         take_at(&mut desk, self.scratch, slot, self.chunk, into)
+    }
+
+    fn lent(&self, stream: u32) -> &[u8] {
+        let slot = stream as usize;
+        if slot >= self.scratch.streams.len() {
+            return &[];
+        }
+        self.scratch.streams[slot].lent()
+    }
+
+    fn skip(&mut self, stream: u32, count: usize) -> Result<usize, Failed> {
+        let slot = stream as usize;
+        if slot >= self.scratch.streams.len() {
+            return Ok(0);
+        }
+        let mut desk = Desk {
+            cache: self.cache,
+            seat: &mut *self.seat,
+            evictor: &mut *self.evictor,
+            store: &mut *self.store,
+            totals: &mut *self.totals,
+        };
+        skip_at(&mut desk, self.scratch, slot, self.chunk, count)
     }
 
     ghost fed_nothing = { λ e. fed_nothing W.files S.reads e };

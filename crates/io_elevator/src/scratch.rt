@@ -1,11 +1,11 @@
 //! Memory that an elevator works in.
-ghost use Rattle.std.specs.Prelude.{◌≡◌, ◌<◌, ◌≤◌, ◌+◌, ℕ, List, length, take, Some, slice_range, slice_set, IfOk, IsTrue, map};
+ghost use Rattle.std.specs.Prelude.{◌≡◌, ◌<◌, ◌≤◌, ◌+◌, ℕ, List, length, take, Some, slice_set, IfOk, IsTrue, map};
 ghost use Rattle.outside.specs.Cause.{HasCause};
 ghost use Rattle.pool_model.specs.Content.{told_bytes};
 ghost use Rattle.buffer_pool.specs.Pools.{IsSeatOf, sizes_of, view};
 ghost use Rattle.range_cache.specs.Caches.{pool_of};
 ghost use Rattle.held_ranges.specs.Moments.{AreEmpty, DeskHolds, keys_of, moment};
-ghost use Rattle.cut_streams.specs.Streams.{TakesBy};
+ghost use Rattle.cut_streams.specs.Streams.{TakesBy, next_bytes};
 ghost use Rattle.cut_streams.specs.Visits.{IsChunk};
 ghost use Rattle.cut_streams.specs.Went.{Went};
 ghost use Rattle.pool_rule.specs.declared.view.Hold.TheVariants.{Free};
@@ -129,10 +129,7 @@ pub(crate) fn take_at<W: World, S: Store<W>>(
     ensures room { IfOk result (λ n. n ≤ length into.old) }
     ensures bytes { IfOk result (λ n. (file : List ℕ)
         → told_bytes W.files (cursor_at (cursors_of scratch.old.streams.items) slot).range.file ≡ Some file
-        → take n into.new ≡ slice_range file
-        ((cursor_at (cursors_of scratch.old.streams.items) slot).range.at + (cursor_at (cursors_of scratch.old.streams.items) slot).taken)
-        ((cursor_at (cursors_of scratch.old.streams.items) slot).range.at
-        + (cursor_at (cursors_of scratch.old.streams.items) slot).taken + n)) }
+        → take n into.new ≡ next_bytes (cursor_at (cursors_of scratch.old.streams.items) slot) n file) }
     ensures inside { (file : List ℕ) → told_bytes W.files (cursor_at (cursors_of scratch.old.streams.items) slot).range.file ≡ Some file
         → 0 < (cursor_at (cursors_of scratch.old.streams.items) slot).range.len
         → (cursor_at (cursors_of scratch.old.streams.items) slot).range.at
@@ -148,6 +145,46 @@ pub(crate) fn take_at<W: World, S: Store<W>>(
     ensures cache { desk.new.cache.now ≡ desk.old.cache.now }
 {
     scratch.streams[slot].take(desk, &mut scratch.slots, slot, into)
+}
+
+/// Passes over bytes at the front of what is left of a stream, through its slot.
+pub(crate) fn skip_at<W: World, S: Store<W>>(
+    desk: &mut Desk<'_, W, S>,
+    scratch: &mut Scratch<W>,
+    slot: usize,
+    chunk: u32,
+    count: usize,
+) -> Result<usize, Failed>
+    requires holding { DeskHolds (moment desk.old scratch.old.slots.items) }
+    requires stream { slot < length scratch.old.streams.items }
+    requires slot { slot < length scratch.old.slots.items }
+    requires chunk { IsChunk (sizes_of (pool_of desk.old.cache.now)) chunk }
+    requires cut { AreCutBy chunk scratch.old.streams.items }
+    ensures holding { DeskHolds (moment desk.new scratch.new.slots.items) }
+    ensures went { Went W.files S.reads (moment desk.old scratch.old.slots.items) (moment desk.new scratch.new.slots.items)
+        (TakesBy chunk slot (cursor_at (cursors_of scratch.old.streams.items) slot) (keys_of scratch.old.slots.items) result
+        (cursor_at (cursors_of scratch.new.streams.items) slot)) }
+    ensures cursors { cursors_of scratch.new.streams.items
+        ≡ slice_set (cursors_of scratch.old.streams.items) slot (cursor_at (cursors_of scratch.new.streams.items) slot) }
+    ensures cut { AreCutBy chunk scratch.new.streams.items }
+    ensures streams { length scratch.new.streams.items ≡ length scratch.old.streams.items }
+    ensures slots { length scratch.new.slots.items ≡ length scratch.old.slots.items }
+    ensures room { IfOk result (λ n. n ≤ count) }
+    ensures inside { (file : List ℕ) → told_bytes W.files (cursor_at (cursors_of scratch.old.streams.items) slot).range.file ≡ Some file
+        → 0 < (cursor_at (cursors_of scratch.old.streams.items) slot).range.len
+        → (cursor_at (cursors_of scratch.old.streams.items) slot).range.at
+        + (cursor_at (cursors_of scratch.old.streams.items) slot).range.len ≤ length file }
+    ensures ends { IfOk result (λ n. 0 < count → n ≡ 0
+        → (cursor_at (cursors_of scratch.old.streams.items) slot).range.len
+        ≤ (cursor_at (cursors_of scratch.old.streams.items) slot).taken) }
+    ensures cause { HasCause (S.fault_count desk.old.store.now) (S.fault_count desk.new.store.now) result }
+    ensures seat_name { desk.new.seat.ghost_name ≡ desk.old.seat.ghost_name }
+    ensures evictor_name { desk.new.evictor.ghost_name ≡ desk.old.evictor.ghost_name }
+    ensures store_name { desk.new.store.ghost_name ≡ desk.old.store.ghost_name }
+    ensures totals_name { desk.new.totals.ghost_name ≡ desk.old.totals.ghost_name }
+    ensures cache { desk.new.cache.now ≡ desk.old.cache.now }
+{
+    scratch.streams[slot].skip(desk, &mut scratch.slots, slot, count)
 }
 
 /// Lets go of all that slots hold, and closes all streams.
