@@ -4,8 +4,6 @@
 #[cfg(test)]
 mod columns;
 #[cfg(test)]
-mod disk;
-#[cfg(test)]
 mod runs;
 #[cfg(test)]
 mod stripes;

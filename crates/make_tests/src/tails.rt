@@ -1,19 +1,10 @@
 //! Tails and stripe footers that are written: byte for byte, and read back.
-use crate::disk::{Disk, file_of};
 use footer_writer::{StreamPart, write_stripe_footer};
 use orc_tail::{Encoding, Stripe, column_named, read_tail};
-use outside::Bytes;
+use outside::{Bytes, RealWorld, StoreReader};
 use std::alloc::Global;
 use tail_writer::{FileColumn, write_tail};
-
-/// One LONG column `x`, DIRECT, and one stripe of 100 rows.
-const FILE: [u8; 68] = [
-    0x4F, 0x52, 0x43, 0x61, 0x00, 0x07, 0x0A, 0x06, 0x08, 0x01, 0x10, 0x01, 0x18, 0x03, 0x12, 0x02,
-    0x08, 0x00, 0x12, 0x02, 0x08, 0x00, 0x1A, 0x0A, 0x08, 0x03, 0x10, 0x00, 0x18, 0x03, 0x20, 0x10,
-    0x28, 0x64, 0x22, 0x08, 0x08, 0x0C, 0x12, 0x01, 0x01, 0x1A, 0x01, 0x78, 0x22, 0x02, 0x08, 0x04,
-    0x30, 0x64, 0x08, 0x1C, 0x10, 0x00, 0x22, 0x02, 0x00, 0x0C, 0x28, 0x00, 0x82, 0xF4, 0x03, 0x03,
-    0x4F, 0x52, 0x43, 0x11,
-];
+use test_stores::{OneFile, WORKED_FILE};
 
 const STRIPE: Stripe = Stripe {
     at: 3,
@@ -56,7 +47,7 @@ fn parts_are_written(alloc: Global) -> Option<bool> {
     push_column(alloc, &mut columns, b"x", 4, &[])?;
     let footer = write_stripe_footer(alloc, &[DATA], &[DIRECT, DIRECT]).ok()?;
     let tail = write_tail(alloc, &[STRIPE], &columns, 100).ok()?;
-    Some(footer.as_slice() == &FILE[6..22] && tail.as_slice() == &FILE[22..])
+    Some(footer.as_slice() == &WORKED_FILE[6..22] && tail.as_slice() == &WORKED_FILE[22..])
 }
 
 #[test]
@@ -76,8 +67,10 @@ fn file_of_lists(alloc: Global) -> Option<Vec<u8>> {
 /// The number and the kind of the type of a column of that file.
 fn type_of(alloc: Global, name: &str) -> Option<(u32, u64)> {
     let bytes = file_of_lists(alloc)?;
-    let mut reader = Disk { bytes: &bytes };
-    let tail = read_tail(alloc, &mut reader, file_of(&bytes)).ok()?;
+    let mut store = OneFile::new(alloc, bytes.as_slice(), usize::MAX);
+    let file = store.file();
+    let mut reader = StoreReader::<RealWorld, _>::new(&mut store);
+    let tail = read_tail(alloc, &mut reader, file).ok()?;
     let column = column_named(&tail, name)?;
     Some((column.number, column.kind))
 }
