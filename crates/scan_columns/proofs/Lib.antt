@@ -1,3 +1,4 @@
 pub mod Naming
+pub mod Numbered
 pub mod Placing
 pub mod ReadOnce

@@ -58,15 +58,15 @@ fn columns_of(alloc: Global, tail: &Tail, names: &[Name]) -> Result<Vec<ReadColu
     Ok(columns)
 }
 
-/// The name of the first column, from a place on, that doesn't serve the scan.
+/// The name of the first column, from an index on, that doesn't serve the scan.
 fn misfit<'a>(
     scan: &Scan,
-    place: usize,
+    index: usize,
     names: &'a [Name],
     columns: &[ReadColumn],
 ) -> Option<&'a Name>
-    requires few { place + length names.now ≤ 16 }
-    ensures { option_copied result ≡ first_misfit scan.now place names.now columns.now }
+    requires few { index + length names.now ≤ 16 }
+    ensures { option_copied result ≡ first_misfit scan.now index names.now columns.now }
 {
     let Some((name, names)) = names.split_first() else {
         return None;
@@ -74,8 +74,8 @@ fn misfit<'a>(
     let Some((column, columns)) = columns.split_first() else {
         return None;
     };
-    if serves(scan, place, column.kind) {
-        misfit(scan, place + 1, names, columns)
+    if serves(scan, index, column.kind) {
+        misfit(scan, index + 1, names, columns)
     } else {
         Some(name)
     }

@@ -2,6 +2,7 @@
 #![tactic(auto)]
 
 mod finding;
+mod kind;
 pub mod laws;
 mod numbering;
 mod serving;

@@ -1,53 +1,29 @@
 //! Whether a column serves a scan, by its kind.
 ghost use Rattle.std.specs.Prelude.{◌≡◌};
 ghost use Rattle.std.specs.List.{list_all};
-ghost use Rattle.orc_columns.specs.Spelling.{is_integer_kind as is_integer};
-ghost use Rattle.fragment_meaning.specs.ScanColumns.{is_read_kind as is_read, literal_fits as literal_meets, check_fits as check_meets};
+ghost use Rattle.fragment_meaning.specs.ScanColumns.{literal_fits as literal_meets, check_fits as check_meets};
 ghost use Rattle.fragment_meaning.specs.ScanColumns.{test_fits as test_meets, fold_fits as fold_meets, serves as serves_scan};
+ghost use Rattle.scan_columns.specs.Kinds.{kind_number};
 
+use crate::kind::{ReadKind, read_kind};
 use fragment_plan::{Check, FoldKind, Scan, Test};
 use orc_values::Value;
 
-/// The kinds of columns that are read.
-const BOOLEAN: u64 = 0;
-
-const SHORT: u64 = 2;
-
-const INT: u64 = 3;
-
-const LONG: u64 = 4;
-
-const STRING: u64 = 7;
-
-/// Whether a column of that kind holds numbers.
-fn is_integer_kind(kind: u64) -> bool
-    ensures { result ≡ is_integer kind }
-{
-    kind == SHORT || kind == INT || kind == LONG
-}
-
-/// Whether a column of that kind is read.
-fn is_read_kind(kind: u64) -> bool
-    ensures { result ≡ is_read kind }
-{
-    kind == BOOLEAN || is_integer_kind(kind) || kind == STRING
-}
-
 /// Whether a literal is of the kind.
-fn literal_fits(kind: u64, literal: &Value) -> bool
-    ensures { result ≡ literal_meets kind literal.now }
+fn literal_fits(kind: ReadKind, literal: &Value) -> bool
+    ensures { result ≡ literal_meets (kind_number kind) literal.now }
 {
     match literal {
         Value::Null => false,
-        Value::Bool(_) => kind == BOOLEAN,
-        Value::Int(_) => is_integer_kind(kind),
-        Value::Text(_) => kind == STRING,
+        Value::Bool(_) => matches!(kind, ReadKind::Boolean),
+        Value::Int(_) => kind.is_integer(),
+        Value::Text(_) => matches!(kind, ReadKind::String),
     }
 }
 
 /// Whether that can be asked of a column of the kind.
-fn check_fits(kind: u64, check: &Check) -> bool
-    ensures { result ≡ check_meets kind check.now }
+fn check_fits(kind: ReadKind, check: &Check) -> bool
+    ensures { result ≡ check_meets (kind_number kind) check.now }
 {
     match check {
         Check::Compare { op: _, literal } => literal_fits(kind, literal),
@@ -56,11 +32,11 @@ fn check_fits(kind: u64, check: &Check) -> bool
     }
 }
 
-/// Whether a test suits the column of that place, which is of the kind.
-fn test_fits(place: usize, kind: u64, test: &Test) -> bool
-    ensures { result ≡ test_meets place kind test.now }
+/// Whether a test suits the column of that index, which is of the kind.
+fn test_fits(index: usize, kind: ReadKind, test: &Test) -> bool
+    ensures { result ≡ test_meets index (kind_number kind) test.now }
 {
-    if test.column as usize == place {
+    if test.column as usize == index {
         check_fits(kind, &test.check)
     } else {
         true
@@ -68,20 +44,20 @@ fn test_fits(place: usize, kind: u64, test: &Test) -> bool
 }
 
 /// Whether all tests do.
-fn all_fit(place: usize, kind: u64, tests: &[Test]) -> bool
-    ensures { result ≡ list_all (test_meets place kind) tests.now }
+fn all_fit(index: usize, kind: ReadKind, tests: &[Test]) -> bool
+    ensures { result ≡ list_all (test_meets index (kind_number kind)) tests.now }
 {
-    tests.iter().all(|test| test_fits(place, kind, test))
+    tests.iter().all(|test| test_fits(index, kind, test))
 }
 
-/// Whether a fold suits the column of that place, which is of the kind: only numbers are added.
-fn fold_fits(place: usize, kind: u64, fold: &FoldKind) -> bool
-    ensures { result ≡ fold_meets place kind fold.now }
+/// Whether a fold suits the column of that index, which is of the kind: only numbers are added.
+fn fold_fits(index: usize, kind: ReadKind, fold: &FoldKind) -> bool
+    ensures { result ≡ fold_meets index (kind_number kind) fold.now }
 {
     match fold {
         FoldKind::Sum(summed) => {
-            if *summed as usize == place {
-                is_integer_kind(kind)
+            if *summed as usize == index {
+                kind.is_integer()
             } else {
                 true
             }
@@ -92,11 +68,15 @@ fn fold_fits(place: usize, kind: u64, fold: &FoldKind) -> bool
     }
 }
 
-/// Whether a column of that kind serves a scan at that place among its names.
-pub(crate) fn serves(scan: &Scan, place: usize, kind: u64) -> bool
-    ensures { result ≡ serves_scan scan.now place kind }
+/// Whether a column whose kind has that number serves a scan at that index among its names.
+#[tactic(auto, using(crate::proofs::Numbered::is_kind, crate::proofs::Numbered::is_read, crate::proofs::Numbered::isnt_read))]
+pub(crate) fn serves(scan: &Scan, index: usize, kind: u64) -> bool
+    ensures { result ≡ serves_scan scan.now index kind }
 {
-    is_read_kind(kind)
-        && fold_fits(place, kind, &scan.fold)
-        && all_fit(place, kind, scan.tests.as_slice())
+    match read_kind(kind) {
+        Some(kind) => {
+            fold_fits(index, kind, &scan.fold) && all_fit(index, kind, scan.tests.as_slice())
+        }
+        None => false,
+    }
 }
