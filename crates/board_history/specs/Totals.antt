@@ -11,48 +11,23 @@ total kind (e ∷ es) = kind e + total kind es
 
 abbrev pub offers : BoardEvent → ℕ
 offers (event.Offered f) = 1
-offers (event.Evicted f) = 0
-offers (event.Rejected f) = 0
-offers (event.Started a) = 0
-offers (event.Preempted victim made_for) = 0
-offers (event.Finished a) = 0
-offers (event.GaveUp a) = 0
+offers other = 0
 
 abbrev pub starts : BoardEvent → ℕ
-starts (event.Offered f) = 0
-starts (event.Evicted f) = 0
-starts (event.Rejected f) = 0
 starts (event.Started a) = 1
-starts (event.Preempted victim made_for) = 0
-starts (event.Finished a) = 0
-starts (event.GaveUp a) = 0
+starts other = 0
 
 abbrev pub kills : BoardEvent → ℕ
-kills (event.Offered f) = 0
-kills (event.Evicted f) = 0
-kills (event.Rejected f) = 0
-kills (event.Started a) = 0
 kills (event.Preempted victim made_for) = 1
-kills (event.Finished a) = 0
-kills (event.GaveUp a) = 0
+kills other = 0
 
 abbrev pub finishes : BoardEvent → ℕ
-finishes (event.Offered f) = 0
-finishes (event.Evicted f) = 0
-finishes (event.Rejected f) = 0
-finishes (event.Started a) = 0
-finishes (event.Preempted victim made_for) = 0
 finishes (event.Finished a) = 1
-finishes (event.GaveUp a) = 0
+finishes other = 0
 
 abbrev pub give_ups : BoardEvent → ℕ
-give_ups (event.Offered f) = 0
-give_ups (event.Evicted f) = 0
-give_ups (event.Rejected f) = 0
-give_ups (event.Started a) = 0
-give_ups (event.Preempted victim made_for) = 0
-give_ups (event.Finished a) = 0
 give_ups (event.GaveUp a) = 1
+give_ups other = 0
 
 -- how often each thing happened; on a board no fragment is run inline
 abbrev pub totals_of : List BoardEvent → BoardTotals
