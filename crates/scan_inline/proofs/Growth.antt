@@ -137,4 +137,4 @@ counted_since first before after old new e counted = subst (λ (x : Option (List
 -- what makes no step counts none
 pub none_stepped : (files : Option Files) {W : Type 0} (pool : Pool W) (seat : PoolSeat W) (totals : CacheTotals) → AreStepsCounted files pool seat seat totals totals
 none_stepped files pool seat totals =
-    record { steps = []; made = refl; filled = inl (omega arith); evicted = inl (omega arith); moved = λ le. refl }
+    record { steps = []; made = refl; same = refl; hit = inl (omega arith); filled = inl (omega arith); evicted = inl (omega arith); moved = λ le. refl }
