@@ -1,15 +1,14 @@
 -- Numbers that stand one behind the other.
-use Rattle.std.proofs.Common.{◌≡◌, ℕ, ◌+◌, ◌^◌, ◌%◌, ◌<◌, ◌≤◌, ℤ, pos, negsuc, ◌+ℤ◌, Bool, true, false, not, ◌==◌, Bor, List, [], ◌∷◌, ◌++◌, length, take, map, get_or, bit_or, of_z, w64, FitsSigned, refl, sym, ◌∙◌, ap, arith}
+use Rattle.std.proofs.Common.{◌≡◌, ℕ, ◌+◌, ◌^◌, ◌%◌, ◌<◌, ◌≤◌, ℤ, pos, negsuc, ◌+ℤ◌, Bool, true, false, not, ◌==◌, Vec, Global, List, [], ◌∷◌, ◌++◌, length, take, map, get_or, bit_or, of_z, w64, FitsSigned, refl, sym, ◌∙◌, ap, arith}
 use Rattle.std.proofs.lemmas.Int.{ints}
 use Rattle.std.proofs.lemmas.Nat.{le_or_l, le_or_r}
 use Rattle.std.proofs.lemmas.List.{length-map, take_more}
 use Rattle.orc_values.specs.declared.value.Value.{Value}
 use Rattle.orc_values.specs.declared.value.Value.TheVariants as value
 use Rattle.orc_values.specs.Woven.{present_count, woven}
-use Rattle.orc_values.specs.Column.{value_by, is_present, present_of}
-use Rattle.orc_values.specs.declared.dense_values.DenseValues.{DenseValues}
-use Rattle.orc_values.specs.declared.dense_values.DenseValues.TheVariants as lent
-use Rattle.orc_values.specs.Dense.{IsDense, dense_count}
+use Rattle.orc_values.specs.Column.{value_by, is_present, present_of, entries_in, column_of}
+use Rattle.orc_values.specs.declared.column_values.ColumnValues.{ColumnValues}
+use Rattle.orc_values.specs.declared.column_values.ColumnValues.TheVariants as list
 use Rattle.batch_masks.specs.Totals.{numbers_in, plus_all, has_some, IsSmall, SumOfFew}
 
 -- ---- small numbers
@@ -74,37 +73,33 @@ numbers_woven (false ∷ present) numbers all = numbers_woven present numbers (o
 numbers_woven (true ∷ present) [] all = absurd (omega (arith, all))
 numbers_woven (true ∷ present) (n ∷ numbers) all = ap (λ (l : List ℤ). n ∷ l) (numbers_woven present numbers (omega (arith, all)))
 
-pub no_numbers_bools : (present : List Bool) (truths : List Bool)
-    → numbers_in (map (value_by (λ b. value.Bool b)) (woven present truths)) ≡ []
-no_numbers_bools [] truths = refl
-no_numbers_bools (false ∷ present) truths = no_numbers_bools present truths
-no_numbers_bools (true ∷ present) [] = no_numbers_bools present []
-no_numbers_bools (true ∷ present) (b ∷ truths) = no_numbers_bools present truths
-
-pub no_numbers_texts : (present : List Bool) (texts : List (List ℕ))
-    → numbers_in (map (value_by (λ t. value.Text t)) (woven present texts)) ≡ []
-no_numbers_texts [] texts = refl
-no_numbers_texts (false ∷ present) texts = no_numbers_texts present texts
-no_numbers_texts (true ∷ present) [] = no_numbers_texts present []
-no_numbers_texts (true ∷ present) (t ∷ texts) = no_numbers_texts present texts
+pub no_numbers : {A : Type 0} (kind : A → Value) → ((x : A) (values : List Value) → numbers_in (kind x ∷ values) ≡ numbers_in values)
+    → (present : List Bool) (values : List A) → numbers_in (map (value_by kind) (woven present values)) ≡ []
+no_numbers kind none [] values = refl
+no_numbers kind none (false ∷ present) values = no_numbers kind none present values
+no_numbers {A} kind none (true ∷ present) [] = let empty : List A = [] in no_numbers kind none present empty
+no_numbers kind none (true ∷ present) (x ∷ values) = none x (map (value_by kind) (woven present values)) ∙ no_numbers kind none present values
 
 pub some_is : (numbers : List ℤ) → not (length numbers == 0) ≡ has_some numbers
 some_is [] = refl
 some_is (n ∷ numbers) = grind arith
 
--- ---- a column that lends its values
+-- ---- a column's values
 
 -- no more than it has rows
-pub dense_most : (column : List Value) (values : DenseValues) → IsDense column values → dense_count values ≤ length column
-dense_most column values dense =
-    omega (arith, dense.all, present_most (present_of column), length-map column is_present)
+pub values_most : (column : List Value) (values : ColumnValues) → entries_in values ≡ present_count (present_of column) → entries_in values ≤ length column
+values_most column values count = omega (arith, count, present_most (present_of column), length-map column is_present)
 
-pub dense_numbers : (column : List Value) (numbers : Bor (List ℤ)) → IsDense column (lent.Ints numbers)
-    → numbers_in column ≡ numbers.now
-dense_numbers column numbers dense = ap numbers_in (sym dense.rows) ∙ numbers_woven (present_of column) numbers.now dense.all
+-- the rows by a list that is known
+pub known_rows : (column : List Value) (values known : ColumnValues) → values ≡ known → column_of (present_of column) values ≡ column → column_of (present_of column) known ≡ column
+known_rows column values known is rows = ap (column_of (present_of column)) (sym is) ∙ rows
 
-pub dense_truths : (column : List Value) (truths : Bor (List Bool)) → IsDense column (lent.Bools truths) → numbers_in column ≡ []
-dense_truths column truths dense = ap numbers_in (sym dense.rows) ∙ no_numbers_bools (present_of column) truths.now
+pub column_numbers : (column : List Value) (numbers : Vec ℤ Global) → length numbers.items ≡ present_count (present_of column) → column_of (present_of column) (list.Ints numbers) ≡ column
+    → numbers_in column ≡ numbers.items
+column_numbers column numbers count rows = ap numbers_in (sym rows) ∙ numbers_woven (present_of column) numbers.items count
 
-pub dense_texts : (column : List Value) (texts : Bor (List (List ℕ))) → IsDense column (lent.Texts texts) → numbers_in column ≡ []
-dense_texts column texts dense = ap numbers_in (sym dense.rows) ∙ no_numbers_texts (present_of column) texts.now
+pub column_truths : (column : List Value) (truths : Vec Bool Global) → column_of (present_of column) (list.Bools truths) ≡ column → numbers_in column ≡ []
+column_truths column truths rows = ap numbers_in (sym rows) ∙ no_numbers (λ (b : Bool). value.Bool b) (λ x values. refl) (present_of column) truths.items
+
+pub column_texts : (column : List Value) (texts : List (List ℕ)) → column_of (present_of column) (list.Texts texts) ≡ column → numbers_in column ≡ []
+column_texts column texts rows = ap numbers_in (sym rows) ∙ no_numbers (λ (t : List ℕ). value.Text t) (λ x values. refl) (present_of column) texts

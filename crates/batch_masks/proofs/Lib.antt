@@ -1,3 +1,4 @@
+mod Gathering
 mod Masks
 mod Numbers
 mod Passing

@@ -1,13 +1,9 @@
 -- Rows that pass one test more.
 use Rattle.std.proofs.Common.{◌≡◌, ◌&&◌, ℕ, zero, suc, ◌+◌, ◌<◌, ◌≤◌, Bool, true, false, List, [], ◌∷◌, length, map, get_or, set, slice_get, replicate, ⊎_elim, Option, Some, None, if◌then◌else◌, refl, sym, ◌∙◌, ap, arith}
-use Rattle.std.proofs.lemmas.List.{ext_get_or, get_or-set_same, get_or-set_other}
+use Rattle.std.proofs.lemmas.List.{ext_get_or, get_or-set_same, get_or-set_other, length-map}
 use Rattle.std.proofs.lemmas.Bool.{cases_eq}
-use Rattle.orc_values.specs.Woven.{aligned}
 use Rattle.batch_masks.specs.Kept.{both}
-use Rattle.orc_values.specs.Column.{value_by}
 use Rattle.orc_values.specs.declared.value.Value.{Value}
-use Rattle.orc_values.specs.declared.value.Value.TheVariants as value
-use Rattle.batch_masks.specs.Checks.{option_holds, present_holds}
 
 pub both-length : (mask others : List Bool) → length mask ≡ length others → length (both mask others) ≡ length mask
 both-length [] others len = refl
@@ -45,36 +41,16 @@ module _ (now mask others : List Bool) (i : ℕ) (y : Bool) where
       → (k : ℕ) → i + 1 ≤ k → get_or (set now i y) k false ≡ get_or mask k false
   narrow_rest rest k h = get_or-set_other now i k y false (λ e. omega (arith, e)) ∙ rest k (omega arith)
 
-module _ {A : Type 0} (asked : A → Bool) where
-  pub present-length : (present : List Bool) (entries : List A) → length present ≡ length entries → length (present_holds asked present entries) ≡ length entries
-  present-length [] [] len = refl
-  present-length [] (x ∷ entries) len = absurd (omega arith)
-  present-length (p ∷ present) [] len = absurd (omega arith)
-  present-length (p ∷ present) (x ∷ entries) len = omega (arith, present-length present entries (omega arith))
-
-  stands : (p : Bool) (x : A) → option_holds asked (if p then Some x else None) ≡ (p && asked x)
-  stands true x = refl
-  stands false x = refl
-
-  pub present-at : (present : List Bool) (entries : List A) (k : ℕ) (d : A) → length present ≡ length entries → k < length entries
-      → get_or (present_holds asked present entries) k false ≡ (get_or present k false && asked (get_or entries k d))
-  present-at present [] k d len lt = absurd (omega arith)
-  present-at [] (x ∷ entries) k d len lt = absurd (omega arith)
-  present-at (p ∷ present) (x ∷ entries) zero d len lt = stands p x
-  present-at (p ∷ present) (x ∷ entries) (suc k) d len lt = present-at present entries k d (omega arith) (omega arith)
-
 pub and_assoc : (a b c : Bool) → ((a && b) && c) ≡ (a && (b && c))
 and_assoc true b c = refl
 and_assoc false b c = refl
 
--- a check of values of one kind is a test of their entries
-pub checked : {A : Type 0} (asked : Value → Bool) (kind : A → Value) (meets : A → Bool) → asked value.Null ≡ false → ((x : A) → asked (kind x) ≡ meets x)
-    → (entries : List (Option A)) → map (option_holds meets) entries ≡ map asked (map (value_by kind) entries)
-checked asked kind meets null same [] = refl
-checked asked kind meets null same (None ∷ entries) =
-    ap (λ (b : Bool). b ∷ map (option_holds meets) entries) (sym null) ∙ ap (λ (l : List Bool). asked value.Null ∷ l) (checked asked kind meets null same entries)
-checked asked kind meets null same (Some x ∷ entries) =
-    ap (λ (b : Bool). b ∷ map (option_holds meets) entries) (sym (same x)) ∙ ap (λ (l : List Bool). asked (kind x) ∷ l) (checked asked kind meets null same entries)
+-- a check of values of one kind is a test of what they are
+pub checked : {A : Type 0} (asked : Value → Bool) (kind : A → Value) (meets : A → Bool) → ((x : A) → asked (kind x) ≡ meets x)
+    → (values : List A) → map meets values ≡ map asked (map kind values)
+checked asked kind meets same [] = refl
+checked asked kind meets same (x ∷ values) =
+    ap (λ (b : Bool). b ∷ map meets values) (sym (same x)) ∙ ap (λ (l : List Bool). asked (kind x) ∷ l) (checked asked kind meets same values)
 
 both-false : (mask others : List Bool) → length mask ≡ length others → ((k : ℕ) → k < length others → get_or others k false ≡ false) → replicate (length mask) false ≡ both mask others
 both-false [] others len none = refl
@@ -87,27 +63,23 @@ both-false (p ∷ mask) (q ∷ others) len none =
     no_and true = refl
     no_and false = refl
 
--- a check that holds of no value lets no row pass
-pub none_holds : {A : Type 0} (asked : Value → Bool) (kind : A → Value) → asked value.Null ≡ false → ((x : A) → asked (kind x) ≡ false)
-    → (mask present : List Bool) (entries : List A) → length present ≡ length entries → length mask ≡ length entries
-    → replicate (length mask) false ≡ both mask (map asked (map (value_by kind) (aligned present entries)))
-none_holds {A} asked kind null never mask present entries flags rows =
-    both-false mask (present_holds (λ (x : A). false) present entries) (rows ∙ sym (present-length (λ (x : A). false) present entries flags)) (λ k lt. no present entries k)
-    ∙ ap (both mask) (checked asked kind (λ (x : A). false) null never (aligned present entries))
+-- a check that holds of no value lets none pass
+pub none_holds : {A : Type 0} (asked : Value → Bool) (kind : A → Value) → ((x : A) → asked (kind x) ≡ false)
+    → (mask : List Bool) (values : List A) → length mask ≡ length values
+    → replicate (length mask) false ≡ both mask (map asked (map kind values))
+none_holds {A} asked kind never mask values rows =
+    both-false mask (map (λ (x : A). false) values) (rows ∙ sym (length-map values (λ (x : A). false))) (λ k lt. no values k)
+    ∙ ap (both mask) (checked asked kind (λ (x : A). false) never values)
   where
-    no : (present : List Bool) (entries : List A) (k : ℕ) → get_or (present_holds (λ (x : A). false) present entries) k false ≡ false
-    no [] entries k = refl
-    no (p ∷ present) [] k = refl
-    no (true ∷ present) (x ∷ entries) zero = refl
-    no (false ∷ present) (x ∷ entries) zero = refl
-    no (p ∷ present) (x ∷ entries) (suc k) = no present entries k
+    no : (values : List A) (k : ℕ) → get_or (map (λ (x : A). false) values) k false ≡ false
+    no [] k = refl
+    no (x ∷ values) zero = refl
+    no (x ∷ values) (suc k) = no values k
 
--- tests that answer the same of each entry are one
-pub present-same : {A : Type 0} (f g : A → Bool) → ((x : A) → f x ≡ g x) → (entries : List (Option A)) → map (option_holds f) entries ≡ map (option_holds g) entries
-present-same f g same [] = refl
-present-same f g same (None ∷ entries) = ap (λ (l : List Bool). false ∷ l) (present-same f g same entries)
-present-same f g same (Some x ∷ entries) =
-    ap (λ (b : Bool). b ∷ map (option_holds f) entries) (same x) ∙ ap (λ (l : List Bool). g x ∷ l) (present-same f g same entries)
+-- tests that answer the same of each value are one
+pub map-same : {A : Type 0} (f g : A → Bool) → ((x : A) → f x ≡ g x) → (values : List A) → map f values ≡ map g values
+map-same f g same [] = refl
+map-same f g same (x ∷ values) = ap (λ (b : Bool). b ∷ map f values) (same x) ∙ ap (λ (l : List Bool). g x ∷ l) (map-same f g same values)
 
 pub map-map : {A B C : Type 0} (f : B → C) (g : A → B) (xs : List A) → map f (map g xs) ≡ map (λ x. f (g x)) xs
 map-map f g [] = refl

@@ -4,11 +4,12 @@ use Rattle.std.specs.List.{list_any}
 use Rattle.std.specs.Int.{w128}
 use Rattle.std.specs.Prelude.{FitsSigned}
 use Rattle.std.proofs.lemmas.Int.{ints}
+use Rattle.orc_values.specs.declared.value.Value.{Value}
 use Rattle.orc_values.specs.declared.value.Value.TheVariants as value
-use Rattle.orc_values.specs.Woven.{aligned}
+use Rattle.orc_values.specs.Woven.{present_count, woven}
 use Rattle.orc_values.specs.Column.{value_by}
 use Rattle.batch_masks.specs.declared.total.Total.{Total}
-use Rattle.batch_masks.specs.Kept.{kept, both}
+use Rattle.batch_masks.specs.Kept.{kept}
 use Rattle.batch_masks.specs.KeptLaws.{kept_more}
 use Rattle.batch_masks.specs.Totals.{numbers_in, plus_all, has_some, with_numbers, SumOfFew}
 
@@ -33,33 +34,28 @@ sum_more start sum flags entries i len lt is =
     ∙ one_kept sum x p
 
 -- in a column of numbers, those that aren't null
-pub numbers-ints : (mask present : List Bool) (entries : List ℤ) → length mask ≡ length entries → length present ≡ length entries
-    → numbers_in (kept mask (map (value_by (λ n. value.Int n)) (aligned present entries))) ≡ kept (both mask present) entries
-numbers-ints [] [] [] len rows = refl
-numbers-ints [] (q ∷ present) [] len rows = absurd (omega arith)
-numbers-ints [] present (x ∷ entries) len rows = absurd (omega arith)
-numbers-ints (p ∷ mask) present [] len rows = absurd (omega arith)
-numbers-ints (p ∷ mask) [] (x ∷ entries) len rows = absurd (omega arith)
-numbers-ints (true ∷ mask) (true ∷ present) (x ∷ entries) len rows = ap (λ (l : List ℤ). x ∷ l) (numbers-ints mask present entries (omega arith) (omega arith))
-numbers-ints (true ∷ mask) (false ∷ present) (x ∷ entries) len rows = numbers-ints mask present entries (omega arith) (omega arith)
-numbers-ints (false ∷ mask) (q ∷ present) (x ∷ entries) len rows = numbers-ints mask present entries (omega arith) (omega arith)
+pub numbers-ints : (mask present : List Bool) (numbers : List ℤ) → length mask ≡ length present → length numbers ≡ present_count present
+    → numbers_in (kept mask (map (value_by (λ n. value.Int n)) (woven present numbers))) ≡ kept (kept present mask) numbers
+numbers-ints [] [] numbers len count = refl
+numbers-ints [] (q ∷ present) numbers len count = absurd (omega arith)
+numbers-ints (p ∷ mask) [] numbers len count = absurd (omega arith)
+numbers-ints (true ∷ mask) (false ∷ present) numbers len count = numbers-ints mask present numbers (omega arith) (omega arith)
+numbers-ints (false ∷ mask) (false ∷ present) numbers len count = numbers-ints mask present numbers (omega arith) (omega arith)
+numbers-ints (p ∷ mask) (true ∷ present) [] len count = absurd (omega arith)
+numbers-ints (true ∷ mask) (true ∷ present) (x ∷ numbers) len count = ap (λ (l : List ℤ). x ∷ l) (numbers-ints mask present numbers (omega arith) (omega arith))
+numbers-ints (false ∷ mask) (true ∷ present) (x ∷ numbers) len count = numbers-ints mask present numbers (omega arith) (omega arith)
 
 -- and none in another
-pub numbers-bools : (mask present : List Bool) (entries : List Bool) → numbers_in (kept mask (map (value_by (λ b. value.Bool b)) (aligned present entries))) ≡ []
-numbers-bools [] present entries = refl
-numbers-bools (p ∷ mask) [] entries = refl
-numbers-bools (p ∷ mask) (q ∷ present) [] = refl
-numbers-bools (true ∷ mask) (true ∷ present) (x ∷ entries) = numbers-bools mask present entries
-numbers-bools (true ∷ mask) (false ∷ present) (x ∷ entries) = numbers-bools mask present entries
-numbers-bools (false ∷ mask) (q ∷ present) (x ∷ entries) = numbers-bools mask present entries
-
-pub numbers-texts : (mask present : List Bool) (entries : List (List ℕ)) → numbers_in (kept mask (map (value_by (λ t. value.Text t)) (aligned present entries))) ≡ []
-numbers-texts [] present entries = refl
-numbers-texts (p ∷ mask) [] entries = refl
-numbers-texts (p ∷ mask) (q ∷ present) [] = refl
-numbers-texts (true ∷ mask) (true ∷ present) (x ∷ entries) = numbers-texts mask present entries
-numbers-texts (true ∷ mask) (false ∷ present) (x ∷ entries) = numbers-texts mask present entries
-numbers-texts (false ∷ mask) (q ∷ present) (x ∷ entries) = numbers-texts mask present entries
+pub numbers-none : {A : Type 0} (kind : A → Value) → ((x : A) (values : List Value) → numbers_in (kind x ∷ values) ≡ numbers_in values)
+    → (mask present : List Bool) (values : List A) → numbers_in (kept mask (map (value_by kind) (woven present values))) ≡ []
+numbers-none kind none [] present values = refl
+numbers-none kind none (p ∷ mask) [] values = refl
+numbers-none kind none (true ∷ mask) (false ∷ present) values = numbers-none kind none mask present values
+numbers-none kind none (false ∷ mask) (false ∷ present) values = numbers-none kind none mask present values
+numbers-none {A} kind none (true ∷ mask) (true ∷ present) [] = let empty : List A = [] in numbers-none kind none mask present empty
+numbers-none {A} kind none (false ∷ mask) (true ∷ present) [] = let empty : List A = [] in numbers-none kind none mask present empty
+numbers-none kind none (true ∷ mask) (true ∷ present) (x ∷ values) = none x (kept mask (map (value_by kind) (woven present values))) ∙ numbers-none kind none mask present values
+numbers-none kind none (false ∷ mask) (true ∷ present) (x ∷ values) = numbers-none kind none mask present values
 
 -- a flag is set where a number is kept
 pub has_some-kept : (mask : List Bool) (entries : List ℤ) → length mask ≡ length entries → list_any (λ flag. flag) mask ≡ has_some (kept mask entries)

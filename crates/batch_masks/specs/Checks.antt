@@ -5,8 +5,7 @@ use Rattle.std.specs.Ordering.{nat_cmp, int_cmp, bool_cmp, is_eq, is_lt, is_gt}
 use Rattle.std.specs.Cmp.Lexicographic.{slice_cmp}
 use Rattle.orc_values.specs.declared.value.Value.{Value}
 use Rattle.orc_values.specs.declared.value.Value.TheVariants as value
-use Rattle.orc_values.specs.Column.{value_by, is_present}
-use Rattle.orc_values.specs.Woven.{aligned}
+use Rattle.orc_values.specs.Column.{is_present}
 use Rattle.fragment_plan.specs.declared.test.Op.{Op}
 use Rattle.fragment_plan.specs.declared.test.Op.TheVariants as op
 use Rattle.fragment_plan.specs.declared.test.Check.{Check}
@@ -49,14 +48,6 @@ check_holds (check.Compare o literal) v = is_so o (order_of v literal)
 check_holds check.IsNull v = not (is_present v)
 check_holds check.IsNotNull v = is_present v
 
--- of which rows the entry stands and passes
-abbrev pub option_holds : {A : Type 0} → (A → Bool) → Option A → Bool
-option_holds asked None = false
-option_holds asked (Some entry) = asked entry
-
-abbrev pub present_holds : {A : Type 0} → (A → Bool) → List Bool → List A → List Bool
-present_holds asked present entries = map (option_holds asked) (aligned present entries)
-
--- of which rows the value of a kind compares with a literal so
-abbrev pub holds_of : {A : Type 0} → (A → Value) → Op → Value → List Bool → List A → List Bool
-holds_of kind o literal present entries = map (check_holds (check.Compare o literal)) (map (value_by kind) (aligned present entries))
+-- of which values of a kind the comparison with a literal holds
+abbrev pub holds_of : {A : Type 0} → (A → Value) → Op → Value → List A → List Bool
+holds_of kind o literal values = map (check_holds (check.Compare o literal)) (map kind values)

@@ -3,6 +3,7 @@
 
 mod compares;
 mod mask;
+mod moves;
 mod narrow;
 mod total;
 mod whole;

@@ -1,16 +1,19 @@
-//! Masks: a flag for each row of a batch, which one test after another unsets.
+//! Masks: a flag for each row of a batch, which one test after another unsets. A comparison looks at the values that aren't null alone,
+//! and at what they are compared with once a batch.
 ghost use Rattle.std.specs.Prelude.{◌≡◌, ◌<◌, length, map, not, false, replicate, if◌then◌else◌, get_or, pos, FitsSigned};
 ghost use Rattle.std.specs.Int.{w64};
 ghost use Rattle.std.specs.Ordering.{nat_cmp, int_cmp, bool_cmp};
 ghost use Rattle.std.specs.Cmp.Lexicographic.{slice_cmp};
 ghost use Rattle.fragment_plan.specs.declared.test.Check.TheVariants as check;
 ghost use Rattle.orc_values.specs.declared.value.Value.TheVariants as value;
+ghost use Rattle.orc_values.specs.Column.{entries_in, values_in};
 ghost use Rattle.batch_masks.specs.Kept.{both};
-ghost use Rattle.batch_masks.specs.Checks.{satisfies, check_holds, present_holds, holds_of};
+ghost use Rattle.batch_masks.specs.Checks.{satisfies, check_holds, holds_of};
 
 use crate::compares::{
     Compare, IsEqual, IsGreater, IsGreaterOrEqual, IsLess, IsLessOrEqual, IsNotEqual,
 };
+use crate::moves::{gather, scatter};
 use fragment_plan::{Check, Op};
 use orc_values::{Column, ColumnValues, Texts, Value};
 use std::cmp::Ordering;
@@ -61,55 +64,58 @@ fn narrow_compared(mask: &mut [bool], column: &Column, op: Op, literal: &Value)
     requires rows { length mask.old ≡ length column.now }
     ensures { mask.new ≡ both mask.old (map (check_holds (check.Compare op literal.now)) column.now) }
 {
-    match column.values() {
-        ColumnValues::Ints(entries) => {
-            compare_ints(mask, column.present(), entries, op, literal);
-        }
-        ColumnValues::Bools(entries) => {
-            compare_bools(mask, column.present(), entries, op, literal);
-        }
-        ColumnValues::Texts(entries) => {
-            compare_texts(mask, column.present(), entries, op, literal);
-        }
+    let count = column.count();
+    gather(mask, column.present(), count);
+    let (front, _) = mask.split_at_mut(count);
+    narrow_values(front, column.values(), op, literal);
+    scatter(mask, column.present(), count);
+}
+
+/// Lets those values pass no more that don't compare with the literal so.
+fn narrow_values(mask: &mut [bool], values: &ColumnValues, op: Op, literal: &Value)
+    requires { length mask.old ≡ entries_in values.now }
+    ensures { mask.new ≡ both mask.old (map (check_holds (check.Compare op literal.now)) (values_in values.now)) }
+{
+    match values {
+        ColumnValues::Ints(values) => compare_ints(mask, values, op, literal),
+        ColumnValues::Bools(values) => compare_bools(mask, values, op, literal),
+        ColumnValues::Texts(values) => compare_texts(mask, values, op, literal),
     }
 }
 
-/// The same of a column of numbers.
-fn compare_ints(mask: &mut [bool], present: &[bool], entries: &[i64], op: Op, literal: &Value)
-    requires flags { length present.now ≡ length entries.now }
-    requires rows { length mask.old ≡ length entries.now }
-    ensures { mask.new ≡ both mask.old (holds_of (λ n. value.Int n) op literal.now present.now entries.now) }
+/// The same of numbers.
+fn compare_ints(mask: &mut [bool], values: &[i64], op: Op, literal: &Value)
+    requires { length mask.old ≡ length values.now }
+    ensures { mask.new ≡ both mask.old (holds_of (λ n. value.Int n) op literal.now values.now) }
 {
     match literal {
-        Value::Int(number) => narrow_ints(mask, present, entries, op, number),
+        Value::Int(number) => narrow_ints(mask, values, op, number),
         Value::Null => narrow_none(mask),
         Value::Bool(_) => narrow_none(mask),
         Value::Text(_) => narrow_none(mask),
     }
 }
 
-/// The same of a column of truth values.
-fn compare_bools(mask: &mut [bool], present: &[bool], entries: &[bool], op: Op, literal: &Value)
-    requires flags { length present.now ≡ length entries.now }
-    requires rows { length mask.old ≡ length entries.now }
-    ensures { mask.new ≡ both mask.old (holds_of (λ b. value.Bool b) op literal.now present.now entries.now) }
+/// The same of truth values.
+fn compare_bools(mask: &mut [bool], values: &[bool], op: Op, literal: &Value)
+    requires { length mask.old ≡ length values.now }
+    ensures { mask.new ≡ both mask.old (holds_of (λ b. value.Bool b) op literal.now values.now) }
 {
     match literal {
-        Value::Bool(truth) => narrow_bools(mask, present, entries, op, *truth),
+        Value::Bool(truth) => narrow_bools(mask, values, op, *truth),
         Value::Null => narrow_none(mask),
         Value::Int(_) => narrow_none(mask),
         Value::Text(_) => narrow_none(mask),
     }
 }
 
-/// The same of a column of texts.
-fn compare_texts(mask: &mut [bool], present: &[bool], entries: &Texts, op: Op, literal: &Value)
-    requires flags { length present.now ≡ length entries.now }
-    requires rows { length mask.old ≡ length entries.now }
-    ensures { mask.new ≡ both mask.old (holds_of (λ t. value.Text t) op literal.now present.now entries.now) }
+/// The same of texts.
+fn compare_texts(mask: &mut [bool], values: &Texts, op: Op, literal: &Value)
+    requires { length mask.old ≡ length values.now }
+    ensures { mask.new ≡ both mask.old (holds_of (λ t. value.Text t) op literal.now values.now) }
 {
     match literal {
-        Value::Text(text) => narrow_texts(mask, present, entries, op, text.as_slice()),
+        Value::Text(text) => narrow_texts(mask, values, op, text.as_slice()),
         Value::Null => narrow_none(mask),
         Value::Bool(_) => narrow_none(mask),
         Value::Int(_) => narrow_none(mask),
@@ -117,65 +123,55 @@ fn compare_texts(mask: &mut [bool], present: &[bool], entries: &Texts, op: Op, l
 }
 
 /// The same of numbers, with a number: one loop for each operator.
-fn narrow_ints(mask: &mut [bool], present: &[bool], entries: &[i64], op: Op, literal: &i64)
-    requires flags { length present.now ≡ length entries.now }
-    requires rows { length mask.old ≡ length entries.now }
-    ensures { mask.new ≡ both mask.old (present_holds (λ n. satisfies op (int_cmp n literal.now)) present.now entries.now) }
+fn narrow_ints(mask: &mut [bool], values: &[i64], op: Op, literal: &i64)
+    requires { length mask.old ≡ length values.now }
+    ensures { mask.new ≡ both mask.old (map (λ n. satisfies op (int_cmp n literal.now)) values.now) }
 {
     let literal = *literal;
     match op {
-        Op::Equal => narrow_by::<IsEqual>(mask, present, entries, literal),
-        Op::NotEqual => narrow_by::<IsNotEqual>(mask, present, entries, literal),
-        Op::Less => narrow_by::<IsLess>(mask, present, entries, literal),
-        Op::LessOrEqual => narrow_by::<IsLessOrEqual>(mask, present, entries, literal),
-        Op::Greater => narrow_by::<IsGreater>(mask, present, entries, literal),
-        Op::GreaterOrEqual => narrow_by::<IsGreaterOrEqual>(mask, present, entries, literal),
+        Op::Equal => narrow_by::<IsEqual>(mask, values, literal),
+        Op::NotEqual => narrow_by::<IsNotEqual>(mask, values, literal),
+        Op::Less => narrow_by::<IsLess>(mask, values, literal),
+        Op::LessOrEqual => narrow_by::<IsLessOrEqual>(mask, values, literal),
+        Op::Greater => narrow_by::<IsGreater>(mask, values, literal),
+        Op::GreaterOrEqual => narrow_by::<IsGreaterOrEqual>(mask, values, literal),
     }
 }
 
-fn narrow_by<C: Compare>(mask: &mut [bool], present: &[bool], entries: &[i64], literal: i64)
-    requires flags { length present.now ≡ length entries.now }
-    requires rows { length mask.old ≡ length entries.now }
-    ensures { mask.new ≡ both mask.old (present_holds (λ n. C.compares n literal) present.now entries.now) }
+fn narrow_by<C: Compare>(mask: &mut [bool], values: &[i64], literal: i64)
+    requires { length mask.old ≡ length values.now }
+    ensures { mask.new ≡ both mask.old (map (λ n. C.compares n literal) values.now) }
 {
-    for row in 0..entries.len() {
-        mask[row] = mask[row] & present[row] & C::compares(number_at(entries, row), literal);
+    for place in 0..values.len() {
+        mask[place] = mask[place] & C::compares(number_at(values, place), literal);
     }
 }
 
-/// The number at a row.
-pub(crate) fn number_at(entries: &[i64], row: usize) -> i64
-    requires { row < length entries.now }
-    ensures value { result ≡ get_or entries.now row (pos 0) }
+/// The number at a place.
+pub(crate) fn number_at(values: &[i64], place: usize) -> i64
+    requires { place < length values.now }
+    ensures value { result ≡ get_or values.now place (pos 0) }
     ensures fits { FitsSigned w64 result }
 {
-    entries[row]
+    values[place]
 }
 
 /// The same of truth values, with a truth value: what the operator answers of each is known before the loop.
-fn narrow_bools(mask: &mut [bool], present: &[bool], entries: &[bool], op: Op, literal: bool)
-    requires flags { length present.now ≡ length entries.now }
-    requires rows { length mask.old ≡ length entries.now }
-    ensures { mask.new ≡ both mask.old (present_holds (λ b. satisfies op (bool_cmp b literal)) present.now entries.now) }
+fn narrow_bools(mask: &mut [bool], values: &[bool], op: Op, literal: bool)
+    requires { length mask.old ≡ length values.now }
+    ensures { mask.new ≡ both mask.old (map (λ b. satisfies op (bool_cmp b literal)) values.now) }
 {
     let of_false = is_so(op, false.cmp(&literal));
     let of_true = is_so(op, true.cmp(&literal));
-    narrow_truths(mask, present, entries, of_false, of_true);
+    narrow_truths(mask, values, of_false, of_true);
 }
 
-fn narrow_truths(
-    mask: &mut [bool],
-    present: &[bool],
-    entries: &[bool],
-    of_false: bool,
-    of_true: bool,
-)
-    requires flags { length present.now ≡ length entries.now }
-    requires rows { length mask.old ≡ length entries.now }
-    ensures { mask.new ≡ both mask.old (present_holds (λ b. if b then of_true else of_false) present.now entries.now) }
+fn narrow_truths(mask: &mut [bool], values: &[bool], of_false: bool, of_true: bool)
+    requires { length mask.old ≡ length values.now }
+    ensures { mask.new ≡ both mask.old (map (λ b. if b then of_true else of_false) values.now) }
 {
-    for row in 0..entries.len() {
-        mask[row] = mask[row] & present[row] & chosen(entries[row], of_false, of_true);
+    for place in 0..values.len() {
+        mask[place] = mask[place] & chosen(values[place], of_false, of_true);
     }
 }
 
@@ -187,14 +183,12 @@ fn chosen(truth: bool, of_false: bool, of_true: bool) -> bool
 }
 
 /// The same of texts, with a text.
-fn narrow_texts(mask: &mut [bool], present: &[bool], entries: &Texts, op: Op, literal: &[u8])
-    requires flags { length present.now ≡ length entries.now }
-    requires rows { length mask.old ≡ length entries.now }
-    ensures { mask.new ≡ both mask.old (present_holds (λ t. satisfies op (slice_cmp nat_cmp t literal.now)) present.now entries.now) }
+fn narrow_texts(mask: &mut [bool], values: &Texts, op: Op, literal: &[u8])
+    requires { length mask.old ≡ length values.now }
+    ensures { mask.new ≡ both mask.old (map (λ t. satisfies op (slice_cmp nat_cmp t literal.now)) values.now) }
 {
-    for row in 0..entries.len() {
-        let holds = is_so(op, entries.get(row).cmp(literal));
-        mask[row] = mask[row] & present[row] & holds;
+    for place in 0..values.len() {
+        mask[place] = mask[place] & is_so(op, values.get(place).cmp(literal));
     }
 }
 

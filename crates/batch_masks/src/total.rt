@@ -3,10 +3,11 @@
 ghost use Rattle.std.specs.Prelude.{◌≡◌, ◌+◌, ◌^◌, ◌<◌, pos, length, get_or, false, if◌then◌else◌, FitsSigned};
 ghost use Rattle.std.specs.Int.{w64};
 ghost use Rattle.std.specs.List.{list_any};
+ghost use Rattle.orc_values.specs.Woven.{present_count};
 ghost use Rattle.batch_masks.specs.Kept.{kept};
 ghost use Rattle.batch_masks.specs.Totals.{numbers_in, plus_all, with_numbers, SumOfFew};
 
-use crate::narrow::narrow_present;
+use crate::moves::gather;
 use orc_values::{Column, ColumnValues};
 
 /// A total of numbers, and whether there is one.
@@ -28,40 +29,61 @@ pub fn with_kept(total: Total, given: u64, mask: &mut [bool], column: &Column) -
     ensures total { result ≡ with_numbers total (numbers_in (kept mask.old column.now)) }
     ensures bound { SumOfFew (given + length column.now) result.sum }
 {
-    narrow_present(mask, column.present());
     match column.values() {
-        ColumnValues::Ints(entries) => Total {
-            some: total.some | any_set(mask),
-            sum: sum_kept(total.sum, given, mask, entries),
-        },
+        ColumnValues::Ints(numbers) => {
+            with_numbers_kept(total, given, mask, column.present(), numbers)
+        }
         ColumnValues::Bools(_) => total,
         ColumnValues::Texts(_) => total,
     }
 }
 
-/// A sum with the numbers more of the rows whose flag is set.
-fn sum_kept(sum: i128, given: u64, mask: &[bool], entries: &[i64]) -> i128
-    requires rows { length mask.now ≡ length entries.now }
-    requires few { given + length entries.now < 2 ^ 63 }
+/// The same of a column of numbers.
+fn with_numbers_kept(
+    total: Total,
+    given: u64,
+    mask: &mut [bool],
+    present: &[bool],
+    numbers: &[i64],
+) -> Total
+    requires rows { length mask.old ≡ length present.now }
+    requires count { length numbers.now ≡ present_count present.now }
+    requires few { given + length numbers.now < 2 ^ 63 }
+    requires bound { SumOfFew given total.sum }
+    ensures total { result ≡ with_numbers total (kept (kept present.now mask.old) numbers.now) }
+    ensures bound { SumOfFew (given + length numbers.now) result.sum }
+{
+    gather(mask, present, numbers.len());
+    let (front, _) = mask.split_at(numbers.len());
+    Total {
+        some: total.some | any_set(front),
+        sum: sum_kept(total.sum, given, front, numbers),
+    }
+}
+
+/// A sum with those numbers more whose flag is set.
+fn sum_kept(sum: i128, given: u64, mask: &[bool], numbers: &[i64]) -> i128
+    requires rows { length mask.now ≡ length numbers.now }
+    requires few { given + length numbers.now < 2 ^ 63 }
     requires bound { SumOfFew given sum }
-    ensures sum { result ≡ plus_all sum (kept mask.now entries.now) }
-    ensures bound { SumOfFew (given + length entries.now) result }
+    ensures sum { result ≡ plus_all sum (kept mask.now numbers.now) }
+    ensures bound { SumOfFew (given + length numbers.now) result }
 {
     let mut now = sum;
-    for row in 0..entries.len() {
-        now += i128::from(number_kept(mask, entries, row));
+    for place in 0..numbers.len() {
+        now += i128::from(number_kept(mask, numbers, place));
     }
     now
 }
 
-/// The number of a row whose flag is set, and 0 of another.
-fn number_kept(mask: &[bool], entries: &[i64], row: usize) -> i64
-    requires rows { length mask.now ≡ length entries.now }
-    requires row { row < length entries.now }
-    ensures value { result ≡ if get_or mask.now row false then get_or entries.now row (pos 0) else pos 0 }
+/// A number whose flag is set, and 0 in place of another.
+fn number_kept(mask: &[bool], numbers: &[i64], place: usize) -> i64
+    requires rows { length mask.now ≡ length numbers.now }
+    requires place { place < length numbers.now }
+    ensures value { result ≡ if get_or mask.now place false then get_or numbers.now place (pos 0) else pos 0 }
     ensures fits { FitsSigned w64 result }
 {
-    if mask[row] { entries[row] } else { 0 }
+    if mask[place] { numbers[place] } else { 0 }
 }
 
 /// Whether a flag is set.

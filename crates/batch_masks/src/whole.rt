@@ -1,11 +1,11 @@
-//! The total of all numbers of a column that lends its values one behind the other: in 64 bits where they are small, and else in 128.
-ghost use Rattle.std.specs.Prelude.{◌≡◌, ℕ, ◌+◌, ◌^◌, ◌<◌, ◌≤◌, true, pos, length, get_or, IfSome, FitsSigned};
+//! The total of all numbers of a column: in 64 bits where they are small, and else in 128.
+ghost use Rattle.std.specs.Prelude.{◌≡◌, ℕ, ◌+◌, ◌^◌, ◌<◌, ◌≤◌, true, pos, length, get_or, FitsSigned};
 ghost use Rattle.std.specs.Int.{w64, w128};
 ghost use Rattle.batch_masks.specs.Totals.{numbers_in, plus_all, with_numbers, IsSmall, SumOfFew};
 
 use crate::narrow::number_at;
 use crate::total::Total;
-use orc_values::{Column, DenseValues};
+use orc_values::{Column, ColumnValues};
 
 /// How far from 0 a small number is at most.
 const FAR: u64 = 1 << 52;
@@ -13,22 +13,32 @@ const FAR: u64 = 1 << 52;
 /// How many small numbers are summed in 64 bits at most.
 const FEW: usize = 1024;
 
-/// A total with all numbers more of a column, or None where the column doesn't lend its values one behind the other.
+/// A total with all numbers more of a column; values that aren't numbers don't count.
 ///
 /// `given` is how many numbers the total has at most.
-pub fn with_all(total: Total, given: u64, column: &Column) -> Option<Total>
+pub fn with_all(total: Total, given: u64, column: &Column) -> Total
     requires few { given + length column.now < 2 ^ 63 }
     requires bound { SumOfFew given total.sum }
-    ensures total { IfSome result (λ new. new ≡ with_numbers total (numbers_in column.now)) }
-    ensures bound { IfSome result (λ new. SumOfFew (given + length column.now) new.sum) }
+    ensures total { result ≡ with_numbers total (numbers_in column.now) }
+    ensures bound { SumOfFew (given + length column.now) result.sum }
 {
-    match column.dense()? {
-        DenseValues::Ints(numbers) => Some(Total {
-            some: total.some | !numbers.is_empty(),
-            sum: sum_all(total.sum, given, numbers),
-        }),
-        DenseValues::Bools(_) => Some(total),
-        DenseValues::Texts(_) => Some(total),
+    match column.values() {
+        ColumnValues::Ints(numbers) => with_each(total, given, numbers),
+        ColumnValues::Bools(_) => total,
+        ColumnValues::Texts(_) => total,
+    }
+}
+
+/// A total with numbers more.
+fn with_each(total: Total, given: u64, numbers: &[i64]) -> Total
+    requires few { given + length numbers.now < 2 ^ 63 }
+    requires bound { SumOfFew given total.sum }
+    ensures total { result ≡ with_numbers total numbers.now }
+    ensures bound { SumOfFew (given + length numbers.now) result.sum }
+{
+    Total {
+        some: total.some | !numbers.is_empty(),
+        sum: sum_all(total.sum, given, numbers),
     }
 }
 

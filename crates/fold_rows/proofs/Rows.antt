@@ -107,7 +107,3 @@ pub count-whole : (s : State) (n : ℕ) (columns : List (List Value)) → with_r
 count-whole s n columns =
     let none : List Value = [] in
     count-length s (replicate n none) (rows_of n columns) (length-replicate n none ∙ sym (length-rows_from 0 n columns))
-
-pub some_weaker : {X : Type 0} (o : Option X) (P Q : X → Type 0) → ((x : X) → P x → Q x) → IfSome o P → IfSome o Q
-some_weaker (Some x) P Q more p = more x p
-some_weaker None P Q more p = p

@@ -1,5 +1,8 @@
 //! What a batch brings to a fold, once it is known which of its rows pass.
-ghost use Rattle.std.specs.Prelude.{◌≡◌, ◌<◌, ◌+◌, ◌^◌, ◌∷◌, ◌++◌, [], length, map, replicate, get_or, false, if◌then◌else◌, All, IfOk};
+ghost use Rattle.std.specs.Prelude.{◌≡◌, ◌<◌, ◌+◌, ◌^◌, ◌∷◌, ◌++◌, [], length, map, replicate, get_or, take, false};
+ghost use Rattle.std.specs.Prelude.{if◌then◌else◌, All, IfOk};
+ghost use Rattle.orc_values.specs.Column.{present_of};
+ghost use Rattle.orc_values.specs.Woven.{present_count};
 ghost use Rattle.orc_values.specs.declared.value.Value.TheVariants as value;
 ghost use Rattle.batch_masks.specs.Kept.{kept};
 ghost use Rattle.batch_masks.specs.Rows.{field, row_at};
@@ -91,16 +94,18 @@ fn push_kept(
     Ok(Table::new(rows))
 }
 
-/// Counts with the value more of a row, where its flag is set.
+/// Counts with the value more of a row, where its flag is set. So many of the rows in front of it have a value.
 fn count_row(
     alloc: Global,
     counts: Counts,
     column: &Column,
     mask: &[bool],
     row: usize,
+    before: usize,
 ) -> Result<Counts, NoMemory>
     requires rows { length mask.now ≡ length column.now }
     requires row { row < length mask.now }
+    requires before { before ≡ present_count (take row (present_of column.now)) }
     ensures { IfOk result (λ new. new ≡
         if get_or mask.now row false then added value_cmp counts (get_or column.now row value.Null) 1 else counts) }
 {
@@ -108,7 +113,7 @@ fn count_row(
     if !mask[row] {
         return Ok(counts);
     }
-    match counts.add(alloc, column.get(row), 1) {
+    match counts.add(alloc, column.get_behind(row, before), 1) {
         Ok(()) => Ok(counts),
         Err(_) => Err(NoMemory),
     }
@@ -124,9 +129,12 @@ fn count_kept(
     requires { length mask.now ≡ length column.now }
     ensures { IfOk result (λ new. new ≡ added_all value_cmp counts (once (kept mask.now column.now))) }
 {
+    let present = column.present();
+    let mut before = 0;
     let mut now = counts;
     for row in 0..mask.len() {
-        now = count_row(alloc, now, column, mask, row)?;
+        now = count_row(alloc, now, column, mask, row, before)?;
+        before += usize::from(present[row]);
     }
     Ok(now)
 }

@@ -1,15 +1,14 @@
 //! What a batch brings to a fold all of whose rows pass.
-ghost use Rattle.std.specs.Prelude.{◌≡◌, ◌<◌, ◌+◌, ◌^◌, length, All, IfOk, IfSome};
+ghost use Rattle.std.specs.Prelude.{◌≡◌, ◌<◌, ◌+◌, ◌^◌, length, All, IfOk};
 ghost use Rattle.batch_masks.specs.Rows.{rows_of};
 ghost use Rattle.batch_masks.specs.Totals.{SumOfFew};
 ghost use Rattle.fragment_plan.specs.Bounds.{FoldInBounds};
 ghost use Rattle.fragment_plan.specs.declared.fragment.FoldKind.TheVariants as kind;
-ghost use Rattle.fold_rows.specs.declared.state.State.TheVariants as has;
 ghost use Rattle.fold_rows.specs.States.{with_rows, sum_in};
 
 use crate::kept::{count_with, with_kept_rows};
 use crate::state::State;
-use batch_masks::{Total, with_all};
+use batch_masks::with_all;
 use fragment_plan::FoldKind;
 use orc_values::Column;
 use outside::NoMemory;
@@ -17,9 +16,8 @@ use std::alloc::Global;
 
 /// What a fold has with all rows more of a batch.
 ///
-/// A fold that counts looks at no row, and one that sums adds the numbers that aren't null as they stand, where the column lends
-/// them so. `given` is how many rows the fold was given before, at least. Refuses only for want of memory, and then the state is
-/// gone.
+/// A fold that counts looks at no row, and one that sums adds the numbers that aren't null as they stand. `given` is how many rows
+/// the fold was given before, at least. Refuses only for want of memory, and then the state is gone.
 pub fn with_whole(
     alloc: Global,
     fold: &FoldKind,
@@ -37,10 +35,7 @@ pub fn with_whole(
 {
     match fold {
         FoldKind::Count => Ok(count_whole(state, given, columns, rows)),
-        FoldKind::Sum(place) => match whole_total(*place, &state, given, columns, rows) {
-            Some(total) => Ok(State::Sum(total)),
-            None => by_mask(alloc, fold, state, given, columns, rows),
-        },
+        FoldKind::Sum(place) => Ok(sum_whole(*place, state, given, columns, rows)),
         FoldKind::Rows(_) => by_mask(alloc, fold, state, given, columns, rows),
         FoldKind::Group(_) => by_mask(alloc, fold, state, given, columns, rows),
     }
@@ -58,28 +53,22 @@ fn count_whole(state: State, given: u64, columns: &[Column], rows: usize) -> Sta
     count_with(state, rows as u64)
 }
 
-/// The total of a fold that sums with all numbers more of its column, or None where the column doesn't lend them as they stand.
-fn whole_total(
-    place: u32,
-    state: &State,
-    given: u64,
-    columns: &[Column],
-    rows: usize,
-) -> Option<Total>
+/// What a fold that sums has with all numbers more of its column.
+fn sum_whole(place: u32, state: State, given: u64, columns: &[Column], rows: usize) -> State
     requires place { place < length columns.now }
     requires rows { All (λ column. length column ≡ rows) columns.now }
     requires few { given + rows < 2 ^ 63 }
-    requires bound { SumOfFew given (sum_in state.now) }
-    ensures state { IfSome result (λ new. has.Sum new ≡ with_rows (kind.Sum place) state.now (rows_of rows columns.now)) }
-    ensures bound { IfSome result (λ new. SumOfFew (given + rows) new.sum) }
+    requires bound { SumOfFew given (sum_in state) }
+    ensures state { result ≡ with_rows (kind.Sum place) state (rows_of rows columns.now) }
+    ensures bound { SumOfFew (given + rows) (sum_in result) }
 {
     // the contract alone speaks of it
     let _rows = rows;
     match state {
-        State::Sum(total) => with_all(*total, given, &columns[place as usize]),
-        State::Rows(_) => None,
-        State::Count(_) => None,
-        State::Group(_) => None,
+        State::Sum(total) => State::Sum(with_all(total, given, &columns[place as usize])),
+        State::Rows(table) => State::Rows(table),
+        State::Count(count) => State::Count(count),
+        State::Group(counts) => State::Group(counts),
     }
 }
 

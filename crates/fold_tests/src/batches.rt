@@ -3,11 +3,11 @@ ghost use Rattle.std.specs.Prelude.{◌≡◌, true, length, All};
 
 use fragment_folds::Fold;
 use fragment_plan::FoldKind;
-use orc_values::{Column, ColumnValues, Texts};
+use orc_values::{Column, ColumnValues, Texts, count_present};
 use std::alloc::Global;
 
 fn column(present: Vec<bool>, values: ColumnValues) -> Option<Column> {
-    if present.len() != values.len() {
+    if count_present(&present) != values.len() {
         return None;
     }
     Some(Column::new(present, values))
@@ -18,7 +18,9 @@ fn ints(alloc: Global, text: &str) -> Option<Column> {
     let mut entries = Vec::new(alloc);
     for value in text.split(',') {
         present.push(value != "_").ok()?;
-        entries.push(value.parse::<i64>().unwrap_or(0)).ok()?;
+        if value != "_" {
+            entries.push(value.parse::<i64>().unwrap_or(0)).ok()?;
+        }
     }
     column(present, ColumnValues::Ints(entries))
 }
@@ -28,7 +30,9 @@ fn bools(alloc: Global, text: &str) -> Option<Column> {
     let mut entries = Vec::new(alloc);
     for value in text.split(',') {
         present.push(value != "_").ok()?;
-        entries.push(value == "1").ok()?;
+        if value != "_" {
+            entries.push(value == "1").ok()?;
+        }
     }
     column(present, ColumnValues::Bools(entries))
 }
@@ -38,7 +42,9 @@ fn texts(alloc: Global, text: &str) -> Option<Column> {
     let mut entries = Texts::empty(alloc);
     for value in text.split(',') {
         present.push(value != "_").ok()?;
-        entries.push(value.as_bytes()).ok()?;
+        if value != "_" {
+            entries.push(value.as_bytes()).ok()?;
+        }
     }
     column(present, ColumnValues::Texts(entries))
 }

@@ -7,7 +7,7 @@ use Rattle.orc_values.specs.declared.column_values.ColumnValues.TheVariants as l
 use Rattle.orc_values.specs.declared.value.Value.{Value}
 use Rattle.orc_values.specs.declared.value.Value.TheVariants as value
 use Rattle.orc_values.specs.Column.{column_of, value_by}
-use Rattle.orc_values.specs.Woven.{aligned}
+use Rattle.orc_values.specs.Woven.{woven}
 use Rattle.orc_columns.specs.declared.spelling.Spelling.{Spelling}
 use Rattle.orc_columns.specs.declared.spelling.Spelling.TheVariants.{Bits, Integers, Texts, Dictionary}
 use Rattle.orc_columns.specs.declared.spelling.Version.TheVariants.{One, Two}
@@ -64,18 +64,18 @@ all_rows : {A : Type 0} (kind : ℕ) (make : A → Value) (rows : List (Option A
 all_rows kind make rows all = All-map (IsOfKind kind) (value_by make) rows (λ k d h. each kind make all (slice_index_or rows k d))
 
 typed_rows : (kind : ℕ) (s : Spelling) (flags : List Bool) (typed : ColumnValues) → KindOf kind s → IsTyped s typed → All (IsOfKind kind) (column_of flags typed)
-typed_rows kind Bits flags (list.Bools entries) is typed = all_rows kind (λ (b : Bool). value.Bool b) (aligned flags entries.items) (λ x. is)
+typed_rows kind Bits flags (list.Bools entries) is typed = all_rows kind (λ (b : Bool). value.Bool b) (woven flags entries.items) (λ x. is)
 typed_rows kind Bits flags (list.Ints entries) is typed = absurd typed
 typed_rows kind Bits flags (list.Texts entries) is typed = absurd typed
 typed_rows kind (Integers version) flags (list.Bools entries) is typed = absurd typed
-typed_rows kind (Integers version) flags (list.Ints entries) is typed = all_rows kind (λ n. value.Int n) (aligned flags entries.items) (λ x. is)
+typed_rows kind (Integers version) flags (list.Ints entries) is typed = all_rows kind (λ n. value.Int n) (woven flags entries.items) (λ x. is)
 typed_rows kind (Integers version) flags (list.Texts entries) is typed = absurd typed
 typed_rows kind (Texts version) flags (list.Bools entries) is typed = absurd typed
 typed_rows kind (Texts version) flags (list.Ints entries) is typed = absurd typed
-typed_rows kind (Texts version) flags (list.Texts entries) is typed = all_rows kind (λ (t : List ℕ). value.Text t) (aligned flags entries) (λ x. is)
+typed_rows kind (Texts version) flags (list.Texts entries) is typed = all_rows kind (λ (t : List ℕ). value.Text t) (woven flags entries) (λ x. is)
 typed_rows kind (Dictionary version) flags (list.Bools entries) is typed = absurd typed
 typed_rows kind (Dictionary version) flags (list.Ints entries) is typed = absurd typed
-typed_rows kind (Dictionary version) flags (list.Texts entries) is typed = all_rows kind (λ (t : List ℕ). value.Text t) (aligned flags entries) (λ x. is)
+typed_rows kind (Dictionary version) flags (list.Texts entries) is typed = all_rows kind (λ (t : List ℕ). value.Text t) (woven flags entries) (λ x. is)
 
 -- the rows of a typed list are of the kind whose spelling it has
 pub rows_of_kind : (kind : ℕ) (encoding : Option ℕ) (s : Spelling) (flags : List Bool) (typed : ColumnValues) → spelling_of kind encoding ≡ Some s → IsTyped s typed → All (IsOfKind kind) (column_of flags typed)

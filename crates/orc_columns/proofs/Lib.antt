@@ -1,6 +1,5 @@
 mod Beginnings
 mod Decoders
-mod DenseRows
 mod Drawing
 mod EitherColumn
 mod Fronts
@@ -19,5 +18,6 @@ mod Taking
 mod TextLengths
 mod TextRows
 mod Turns
+mod ValueBatches
 mod WholeColumns
 mod WholeDictionary

@@ -9,11 +9,10 @@ use Rattle.outside.specs.RunLaws.{Between-start}
 use Rattle.orc_rle.specs.BitRun.{BitRun}
 use Rattle.orc_values.specs.declared.column_values.ColumnValues.{ColumnValues}
 use Rattle.orc_values.specs.declared.value.Value.{Value}
-use Rattle.orc_values.specs.declared.value.Value.TheVariants as value
-use Rattle.orc_values.specs.declared.column_values.ColumnValues.TheVariants as list
-use Rattle.orc_values.specs.Column.{column_of, value_by, entries_in}
-use Rattle.orc_values.specs.Woven.{present_count, woven, aligned}
-use Rattle.orc_values.specs.WovenLaws.{woven-append, present_count-append, length-woven, length-aligned}
+use Rattle.orc_values.specs.Column.{column_of, entries_in, values_in}
+use Rattle.orc_values.specs.ColumnLaws.{column-woven, length-values_in}
+use Rattle.orc_values.specs.Woven.{present_count, woven}
+use Rattle.orc_values.specs.WovenLaws.{woven-append, present_count-append, length-woven}
 use Rattle.orc_columns.specs.declared.fault.ColumnFault.{ColumnFault}
 use Rattle.orc_columns.specs.declared.plan.ColumnPlan.{ColumnPlan}
 use Rattle.row_flags.specs.declared.present.PresentState.{PresentState}
@@ -56,16 +55,16 @@ rows_of-append before after front back h = ap (λ (l : List (Option Value)). map
 
 module _ (plan : ColumnPlan) (old new : PresentOf) (ov nv : ValueReader) where
   -- the rows that were given go on with those of the flags and the values
-  pub rows_go : (flags : List Bool) (typed : ColumnValues) (rows : List Value) (b m a : Streams) → spelling_in nv ≡ spelling_in ov → rows ≡ column_of flags typed → FlagsGoOn old new b m flags → ValuesGoOn plan.dictionary_size flags ov nv m a typed
+  pub rows_go : (flags : List Bool) (typed : ColumnValues) (rows : List Value) (b m a : Streams) → spelling_in nv ≡ spelling_in ov → entries_in typed ≡ present_count flags → rows ≡ column_of flags typed → FlagsGoOn old new b m flags → ValuesGoOn plan.dictionary_size ov nv m a typed
       → RowsGoOn (whole_reader plan old ov) (whole_reader plan new nv) b a rows
-  rows_go flags typed rows b m a same is on goes start given at = record {
+  rows_go flags typed rows b m a same counted is on goes start given at = record {
     flags = at.flags ++ flags;
-    values = at.values ++ goes.more;
+    values = at.values ++ values_in typed;
     spelled = at.spelled ∙ ap (λ (s : Spelling). Some s) (sym same);
     present = rw goes.present (on.1 start.present at.flags at.present);
-    enough = omega (arith, length-append at.values goes.more, present_count-append at.flags flags, at.enough, goes.enough);
+    enough = omega (arith, length-append at.values (values_in typed), present_count-append at.flags flags, at.enough, length-values_in typed, counted);
     standing = goes.goes start at.values (standing_on plan.dictionary_size start at.values ov b m on.0.0 on.0.1 on.0.2 at.standing);
-    rows_are = rw (at.rows_are, is, goes.rows_are) (sym (rows_of-append at.flags flags at.values goes.more at.enough));
+    rows_are = rw (at.rows_are, is, column-woven flags typed) (sym (rows_of-append at.flags flags at.values (values_in typed) at.enough));
   }
 
   -- the flags break
@@ -87,32 +86,27 @@ module _ {F : Type 0} (rest : F → ℕ → Option (List ℕ)) (fed : F → List
     (lost : (first last : F) (takes : List Taken) (stream : ℕ) → fed first takes last → Lost (taken_of stream takes) (rest first stream) (rest last stream))
     (nothing : (feed : F) → fed feed [] feed) (joined : (first between last : F) (xs ys : List Taken) → fed first xs between → fed between ys last → fed first (xs ++ ys) last)
     (old new : PresentOf) (ov nv : ValueReader) (n : ℕ) (first between last : F) (flags seen : List Bool) (same : seen ≡ flags) where
-  pub batch_ok : {turns : List (Option ℕ)} (typed : ColumnValues) (rows : List Value) → spelling_in nv ≡ spelling_in ov → rows ≡ column_of seen typed
+  pub batch_ok : {turns : List (Option ℕ)} (typed : ColumnValues) (rows : List Value) → spelling_in nv ≡ spelling_in ov → entries_in typed ≡ present_count seen → rows ≡ column_of seen typed
       → Draws rest fed count plan (alone plan.present) first between (FlagsGoOn old new) (FlagsBreak old n) (Ok flags)
-      → Draws rest fed count plan turns between last (ValuesGoOn plan.dictionary_size seen ov nv) (ValuesBreak plan.dictionary_size (present_count seen) ov) (Ok typed)
+      → Draws rest fed count plan turns between last (ValuesGoOn plan.dictionary_size ov nv) (ValuesBreak plan.dictionary_size (present_count seen) ov) (Ok typed)
       → Draws rest fed count plan (plan.present ∷ turns) first last (RowsGoOn (whole_reader plan old ov) (whole_reader plan new nv)) (RowsFail (whole_reader plan old ov) n) (Ok rows)
-  batch_ok typed rows spelled is one two =
+  batch_ok typed rows spelled counted is one two =
       Draws-ok rest fed count plan lost nothing joined first last
-      (λ b a y. (m : Streams) × FlagsGoOn old new b m flags × ValuesGoOn plan.dictionary_size seen ov nv m a y) (RowsGoOn (whole_reader plan old ov) (whole_reader plan new nv))
+      (λ b a y. (m : Streams) × FlagsGoOn old new b m flags × ValuesGoOn plan.dictionary_size ov nv m a y) (RowsGoOn (whole_reader plan old ov) (whole_reader plan new nv))
       (λ b f. (m : Streams) × FlagsGoOn old new b m flags × ValuesBreak plan.dictionary_size (present_count seen) ov m f) (RowsFail (whole_reader plan old ov) n) typed rows
-      (λ b a tells goes. rows_go plan old new ov nv seen typed rows b goes.0 a spelled is (subst (λ (l : List Bool). FlagsGoOn old new b goes.0 l) (sym same) goes.1) goes.2)
-      (Draws-then rest fed count plan lost nothing joined first between last (FlagsGoOn old new) (ValuesGoOn plan.dictionary_size seen ov nv) (FlagsBreak old n) (ValuesBreak plan.dictionary_size (present_count seen) ov) flags (Ok typed) one two)
+      (λ b a tells goes. rows_go plan old new ov nv seen typed rows b goes.0 a spelled counted is (subst (λ (l : List Bool). FlagsGoOn old new b goes.0 l) (sym same) goes.1) goes.2)
+      (Draws-then rest fed count plan lost nothing joined first between last (FlagsGoOn old new) (ValuesGoOn plan.dictionary_size ov nv) (FlagsBreak old n) (ValuesBreak plan.dictionary_size (present_count seen) ov) flags (Ok typed) one two)
 
   pub batch_fault : {turns : List (Option ℕ)} (fault : ColumnFault) → length seen ≡ n
       → Draws rest fed count plan (alone plan.present) first between (FlagsGoOn old new) (FlagsBreak old n) (Ok flags)
-      → Draws rest fed count plan turns between last (ValuesGoOn plan.dictionary_size seen ov nv) (ValuesBreak plan.dictionary_size (present_count seen) ov) (Err fault)
+      → Draws rest fed count plan turns between last (ValuesGoOn plan.dictionary_size ov nv) (ValuesBreak plan.dictionary_size (present_count seen) ov) (Err fault)
       → Draws rest fed count plan (plan.present ∷ turns) first last (RowsGoOn (whole_reader plan old ov) (whole_reader plan new nv)) (RowsFail (whole_reader plan old ov) n) (Err fault)
   batch_fault fault asked one two =
       Draws-fault rest fed count plan lost nothing joined first last
-      (λ b a y. (m : Streams) × FlagsGoOn old new b m flags × ValuesGoOn plan.dictionary_size seen ov nv m a y) (RowsGoOn (whole_reader plan old ov) (whole_reader plan new nv))
+      (λ b a y. (m : Streams) × FlagsGoOn old new b m flags × ValuesGoOn plan.dictionary_size ov nv m a y) (RowsGoOn (whole_reader plan old ov) (whole_reader plan new nv))
       (λ b f. (m : Streams) × FlagsGoOn old new b m flags × ValuesBreak plan.dictionary_size (present_count seen) ov m f) (RowsFail (whole_reader plan old ov) n) fault
       (λ b f tells goes. values_fail plan old new ov nv n seen b goes.0 f asked (subst (λ (l : List Bool). FlagsGoOn old new b goes.0 l) (sym same) goes.1) goes.2)
-      (Draws-then rest fed count plan lost nothing joined first between last (FlagsGoOn old new) (ValuesGoOn plan.dictionary_size seen ov nv) (FlagsBreak old n) (ValuesBreak plan.dictionary_size (present_count seen) ov) flags (Err fault) one two)
-
-pub length-column_of : (flags : List Bool) (typed : ColumnValues) → length flags ≡ entries_in typed → length (column_of flags typed) ≡ length flags
-length-column_of flags (list.Bools entries) h = length-map (aligned flags entries.items) (value_by (λ (b : Bool). value.Bool b)) ∙ length-aligned flags entries.items h
-length-column_of flags (list.Ints entries) h = length-map (aligned flags entries.items) (value_by (λ n. value.Int n)) ∙ length-aligned flags entries.items h
-length-column_of flags (list.Texts entries) h = length-map (aligned flags entries) (value_by (λ (t : List ℕ). value.Text t)) ∙ length-aligned flags entries h
+      (Draws-then rest fed count plan lost nothing joined first between last (FlagsGoOn old new) (ValuesGoOn plan.dictionary_size ov nv) (FlagsBreak old n) (ValuesBreak plan.dictionary_size (present_count seen) ov) flags (Err fault) one two)
 
 -- ---- the reader after a batch
 

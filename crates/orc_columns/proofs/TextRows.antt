@@ -1,4 +1,4 @@
--- The rows of a batch of texts.
+-- A batch of texts that are spelled one by one.
 use Rattle.std.proofs.Common.{◌≡◌, ℕ, ◌+◌, ◌-◌, ◌≤◌, Bool, false, List, [], ◌∷◌, ◌++◌, length, map, take, drop, sum, Option, Ok, Err, ℤ, pos, unsigned_abs, sym, ◌∙◌, ap, subst, arith, length-drop}
 use Rattle.std.proofs.lemmas.List.{map-append, length-map, length-take-le, drop-drop, take-append-drop}
 use Rattle.outside.specs.Feed.{Taken, Lost, taken_of}
@@ -6,10 +6,9 @@ use Rattle.outside.specs.Runs.{Between}
 use Rattle.orc_values.specs.declared.column_values.ColumnValues.{ColumnValues}
 use Rattle.orc_values.specs.declared.value.Value.{Value}
 use Rattle.orc_values.specs.declared.value.Value.TheVariants as value
-use Rattle.orc_values.specs.Column.{column_of, value_by}
+use Rattle.orc_values.specs.Column.{values_in}
 use Rattle.orc_values.specs.Texts.{slices}
 use Rattle.orc_values.specs.TextsLaws.{slices-front, slices-joined, length-slices}
-use Rattle.orc_values.specs.Woven.{present_count, woven}
 use Rattle.orc_columns.specs.declared.fault.ColumnFault.{ColumnFault}
 use Rattle.orc_columns.specs.declared.plan.ColumnPlan.{ColumnPlan}
 use Rattle.orc_columns.specs.declared.spelling.Version.{Version}
@@ -21,7 +20,7 @@ use Rattle.orc_columns.specs.Decoders.{IntegersOf}
 use Rattle.orc_columns.specs.Draws.{Draws}
 use Rattle.orc_columns.specs.Spelling.{IntRun}
 use Rattle.orc_columns.specs.Takes.{BodyTaken, BodyShort}
-use Rattle.orc_columns.proofs.DenseRows.{dense_rows}
+use Rattle.orc_columns.proofs.ValueBatches.{given_on}
 use Rattle.orc_columns.proofs.Drawing.{Draws-then, Draws-ok, Draws-fault}
 use Rattle.orc_columns.proofs.TextLengths.{sum-append, joined_lengths, lengths_go}
 use Rattle.orc_columns.specs.Turns.{alone}
@@ -46,18 +45,15 @@ slices_on lens more bytes start enough are =
 abbrev pub reader_of : IntegersOf → Option ℕ → ℕ → ValueReader
 reader_of lengths body left = reader.Texts (record { lengths = lengths; «data» = body; left = left })
 
-module _ (size n : ℕ) (flags : List Bool) (old new : IntegersOf) (body : Option ℕ) (left total : ℕ) (numbers : List ℤ) (unsigned : old.signed ≡ false) (counted : n ≡ present_count flags) where
+module _ (size n : ℕ) (old new : IntegersOf) (body : Option ℕ) (left total : ℕ) (numbers : List ℤ) (unsigned : old.signed ≡ false) where
   pub texts_go : (b m a : Streams) (bytes : List ℕ) (typed : ColumnValues) → new.version ≡ old.version → length numbers ≡ n → TotalOf numbers left total
-      → column_of flags typed ≡ map (value_by (λ t. value.Text t)) (woven flags (slices 0 (map unsigned_abs numbers) bytes))
-      → LengthsGoOn old new b m numbers → BodyTaken total m a bytes → ValuesGoOn size flags (reader_of old body left) (reader_of new body (left - total)) b a typed
+      → values_in typed ≡ map (λ t. value.Text t) (slices 0 (map unsigned_abs numbers) bytes)
+      → LengthsGoOn old new b m numbers → BodyTaken total m a bytes → ValuesGoOn size (reader_of old body left) (reader_of new body (left - total)) b a typed
   texts_go b m a bytes typed version len total_of rows on took =
       let kind : List ℕ → Value = λ (t : List ℕ). value.Text t in
       let more : List ℕ = map unsigned_abs numbers in
       record {
-        more = map kind (slices 0 more bytes);
         present = took.only.0 ∙ on.0.0;
-        enough = length-map (slices 0 more bytes) kind ∙ length-slices 0 more bytes ∙ length-map numbers unsigned_abs ∙ len ∙ counted;
-        rows_are = rows ∙ dense_rows kind flags (slices 0 more bytes);
         goes = λ start given at.
             let lens : List ℕ = at.0 in
             let here : Between (IntRun old.version false) start.lengths (map pos lens ++ numbers) new.held m.lengths = lengths_go old new b m numbers start.lengths lens unsigned on at.1 in
@@ -73,7 +69,7 @@ module _ (size n : ℕ) (flags : List Bool) (old new : IntegersOf) (body : Optio
               there,
               omega (arith, at.2, sums, total_of.within),
               body_is,
-              ap (λ (l : List Value). l ++ map kind (slices 0 more bytes)) at.4 ∙ sym (map-append kind (slices 0 lens start.body) (slices 0 more bytes)) ∙ ap (λ (l : List (List ℕ)). map kind l) (slices_on lens more bytes start.body enough bytes_are),
+              given_on kind given (values_in typed) (slices 0 lens start.body) (slices 0 more bytes) at.4 rows ∙ ap (λ (l : List (List ℕ)). map kind l) (slices_on lens more bytes start.body enough bytes_are),
               took.only.2 ∙ on.0.2 ∙ at.5,
             );
       }
@@ -83,15 +79,15 @@ module _ (size n : ℕ) (flags : List Bool) (old new : IntegersOf) (body : Optio
       let kind : List ℕ → Value = λ (t : List ℕ). value.Text t in
       ap length is ∙ length-map (slices 0 lens bytes) kind ∙ length-slices 0 lens bytes
 
-  pub texts_refuse : (b : Streams) (fault : ColumnFault) → LengthsRefuse old n left b fault → ValuesBreak size (present_count flags) (reader_of old body left) b fault
+  pub texts_refuse : (b : Streams) (fault : ColumnFault) → LengthsRefuse old n left b fault → ValuesBreak size n (reader_of old body left) b fault
   texts_refuse b fault refuse start given at =
       let fails : LengthsFail old.version start.lengths (left + sum at.0) (length at.0 + n) fault = refuse start.lengths at.0 at.1 in
       let whole : LengthsFail old.version start.lengths (length start.body) (length at.0 + n) fault = subst (λ (k : ℕ). LengthsFail old.version start.lengths k (length at.0 + n) fault) at.2 fails in
-      let len : length at.0 + n ≡ length given + present_count flags = omega (arith, length-given given at.0 start.body at.4, counted) in
+      let len : length at.0 + n ≡ length given + n = omega (arith, length-given given at.0 start.body at.4) in
       texts (subst (λ (k : ℕ). LengthsFail old.version start.lengths (length start.body) k fault) len whole)
 
   -- DATA has the bytes that it is said to have
-  pub never_short : (b m : Streams) (fault : ColumnFault) → TotalOf numbers left total → LengthsGoOn old new b m numbers → BodyShort total m fault → ValuesBreak size (present_count flags) (reader_of old body left) b fault
+  pub never_short : (b m : Streams) (fault : ColumnFault) → TotalOf numbers left total → LengthsGoOn old new b m numbers → BodyShort total m fault → ValuesBreak size n (reader_of old body left) b fault
   never_short b m fault total_of on short start given at =
       let body_was : length m.body ≡ length (drop (sum at.0) start.body) = ap length (on.0.1 ∙ at.3) in
       absurd (omega (arith, body_was, length-drop (sum at.0) start.body, at.2, total_of.within, short))
@@ -101,24 +97,24 @@ module _ (size n : ℕ) (flags : List Bool) (old new : IntegersOf) (body : Optio
       (nothing : (feed : F) → fed feed [] feed) (joined : (first between last : F) (xs ys : List Taken) → fed first xs between → fed between ys last → fed first (xs ++ ys) last)
       (first between last : F) (total_of : TotalOf numbers left total) where
     pub texts_ok : (bytes : List ℕ) (typed : ColumnValues) → new.version ≡ old.version → length numbers ≡ n
-        → column_of flags typed ≡ map (value_by (λ t. value.Text t)) (woven flags (slices 0 (map unsigned_abs numbers) bytes))
+        → values_in typed ≡ map (λ t. value.Text t) (slices 0 (map unsigned_abs numbers) bytes)
         → Draws rest fed count plan (alone plan.length) first between (LengthsGoOn old new) (LengthsRefuse old n left) (Ok numbers)
         → Draws rest fed count plan (alone plan.body) between last (BodyTaken total) (BodyShort total) (Ok bytes)
-        → Draws rest fed count plan (plan.length ∷ alone plan.body) first last (ValuesGoOn size flags (reader_of old body left) (reader_of new body (left - total))) (ValuesBreak size (present_count flags) (reader_of old body left)) (Ok typed)
+        → Draws rest fed count plan (plan.length ∷ alone plan.body) first last (ValuesGoOn size (reader_of old body left) (reader_of new body (left - total))) (ValuesBreak size n (reader_of old body left)) (Ok typed)
     texts_ok bytes typed version len rows one two =
         Draws-ok rest fed count plan lost nothing joined first last
-        (λ b a y. (m : Streams) × LengthsGoOn old new b m numbers × BodyTaken total m a y) (ValuesGoOn size flags (reader_of old body left) (reader_of new body (left - total)))
-        (λ b f. (m : Streams) × LengthsGoOn old new b m numbers × BodyShort total m f) (ValuesBreak size (present_count flags) (reader_of old body left)) bytes typed
+        (λ b a y. (m : Streams) × LengthsGoOn old new b m numbers × BodyTaken total m a y) (ValuesGoOn size (reader_of old body left) (reader_of new body (left - total)))
+        (λ b f. (m : Streams) × LengthsGoOn old new b m numbers × BodyShort total m f) (ValuesBreak size n (reader_of old body left)) bytes typed
         (λ b a tells goes. texts_go b goes.0 a bytes typed version len total_of rows goes.1 goes.2)
         (Draws-then rest fed count plan lost nothing joined first between last (LengthsGoOn old new) (BodyTaken total) (LengthsRefuse old n left) (BodyShort total) numbers (Ok bytes) one two)
 
     pub texts_fault : (after : ValueReader) (fault : ColumnFault)
         → Draws rest fed count plan (alone plan.length) first between (LengthsGoOn old new) (LengthsRefuse old n left) (Ok numbers)
         → Draws {Y = List ℕ} rest fed count plan (alone plan.body) between last (BodyTaken total) (BodyShort total) (Err fault)
-        → Draws rest fed count plan (plan.length ∷ alone plan.body) first last (ValuesGoOn size flags (reader_of old body left) after) (ValuesBreak size (present_count flags) (reader_of old body left)) (Err fault)
+        → Draws rest fed count plan (plan.length ∷ alone plan.body) first last (ValuesGoOn size (reader_of old body left) after) (ValuesBreak size n (reader_of old body left)) (Err fault)
     texts_fault after fault one two =
         Draws-fault rest fed count plan lost nothing joined first last
-        (λ b a y. (m : Streams) × LengthsGoOn old new b m numbers × BodyTaken total m a y) (ValuesGoOn size flags (reader_of old body left) after)
-        (λ b f. (m : Streams) × LengthsGoOn old new b m numbers × BodyShort total m f) (ValuesBreak size (present_count flags) (reader_of old body left)) fault
+        (λ b a y. (m : Streams) × LengthsGoOn old new b m numbers × BodyTaken total m a y) (ValuesGoOn size (reader_of old body left) after)
+        (λ b f. (m : Streams) × LengthsGoOn old new b m numbers × BodyShort total m f) (ValuesBreak size n (reader_of old body left)) fault
         (λ b f tells short. never_short b short.0 f total_of short.1 short.2)
         (Draws-then rest fed count plan lost nothing joined first between last (LengthsGoOn old new) (BodyTaken total) (LengthsRefuse old n left) (BodyShort total) numbers (Err fault) one two)

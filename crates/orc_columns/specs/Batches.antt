@@ -9,9 +9,8 @@ use Rattle.orc_values.specs.declared.column_values.ColumnValues.{ColumnValues}
 use Rattle.orc_values.specs.declared.column_values.ColumnValues.TheVariants as list
 use Rattle.orc_values.specs.declared.value.Value.{Value}
 use Rattle.orc_values.specs.declared.value.Value.TheVariants as value
-use Rattle.orc_values.specs.Column.{column_of}
+use Rattle.orc_values.specs.Column.{values_in}
 use Rattle.orc_values.specs.Texts.{slices}
-use Rattle.orc_values.specs.Woven.{present_count}
 use Rattle.orc_columns.specs.declared.fault.ColumnFault.{ColumnFault}
 use Rattle.orc_columns.specs.declared.fault.ColumnFault.TheVariants.{Run, NegativeLength, LengthsPastData}
 use Rattle.orc_columns.specs.declared.fault.StreamName.TheVariants as name
@@ -21,7 +20,7 @@ use Rattle.orc_columns.specs.declared.spelling.Spelling.TheVariants.{Bits, Integ
 use Rattle.orc_columns.specs.declared.spelling.Version.{Version}
 use Rattle.orc_columns.specs.declared.value_reader.ValueReader.{ValueReader}
 use Rattle.orc_columns.specs.declared.value_reader.ValueReader.TheVariants as reader
-use Rattle.orc_columns.specs.Column.{Streams, IsNegative, AreLengths, LengthsFail, ValuesFail, rows_of}
+use Rattle.orc_columns.specs.Column.{Streams, IsNegative, AreLengths, LengthsFail, ValuesFail}
 use Rattle.row_flags.specs.Decoders.{BitsOf, PresentOf}
 use Rattle.orc_columns.specs.Decoders.{IntegersOf}
 use Rattle.orc_columns.specs.Draws.{OnlyPresent, OnlyBody, OnlyLengths, GoesOn, BreaksOn}
@@ -115,14 +114,11 @@ IsTyped (Texts version) (list.Texts entries) = Unit {0}
 IsTyped (Dictionary version) (list.Texts entries) = Unit {0}
 IsTyped spelling entries = ⊥
 
--- A reader's values go on with those of a typed list, one for each flag that is set, and it takes nothing of PRESENT.
-pub record ValuesGoOn (size : ℕ) (flags : List Bool) (old new : ValueReader) (before after : Streams) (typed : ColumnValues) : Type 0 where
-  pub more : List Value
+-- A reader's values go on with those of a typed list, and it takes nothing of PRESENT.
+pub record ValuesGoOn (size : ℕ) (old new : ValueReader) (before after : Streams) (typed : ColumnValues) : Type 0 where
   pub present : after.present ≡ before.present
-  pub enough : length more ≡ present_count flags
-  pub rows_are : column_of flags typed ≡ rows_of flags more
   pub goes : (start : Streams) (given : List Value) → ValuesBetween size start given old before
-      → ValuesBetween size start (given ++ more) new after
+      → ValuesBetween size start (given ++ values_in typed) new after
 
 -- the fault is the first of so many values more
 abbrev pub ValuesBreak : ℕ → ℕ → ValueReader → Streams → ColumnFault → Type 0

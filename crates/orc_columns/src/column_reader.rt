@@ -147,13 +147,11 @@ fn fill_rows<F: Feed>(
         (RowsGoOn (whole_reader plan present.old values.old) (whole_reader plan present.new values.new))
         (RowsFail (whole_reader plan present.old values.old) rows) (placed out.new result) }
 {
-    let (mut flags, older, mut numbers) = mem::replace(out, Column::empty(alloc)).into_memory(
-        alloc,
-    );
+    let (mut flags, older) = mem::replace(out, Column::empty(alloc)).into_parts();
     flags.resize(rows as usize, false)?;
     fill_flags(present, feed, &mut flags)?;
     let count = count_present(&flags);
-    let typed = values.fill(alloc, feed, &flags, count, older, &mut numbers)?;
-    *out = Column::with_numbers(flags, count, typed, numbers);
+    let typed = values.fill(alloc, feed, count, older)?;
+    *out = Column::new(flags, typed);
     Ok(())
 }

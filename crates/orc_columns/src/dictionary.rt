@@ -6,11 +6,9 @@ ghost use Rattle.outside.specs.Reading.{placed};
 ghost use Rattle.orc_values.specs.Texts.{running_ends};
 ghost use Rattle.orc_columns.specs.declared.fault.ColumnFault.TheVariants as fault;
 ghost use Rattle.orc_columns.specs.Column.{places_of};
-ghost use Rattle.row_texts.specs.Lookup.{row_texts, chosen};
+ghost use Rattle.row_texts.specs.Lookup.{chosen};
 ghost use Rattle.orc_columns.specs.Entries.{IsOutOf, LengthsRead};
 ghost use Rattle.orc_values.specs.Column.{entries_in};
-ghost use Rattle.orc_values.specs.Dense.{AreKept};
-ghost use Rattle.orc_values.specs.Woven.{present_count};
 ghost use Rattle.orc_columns.specs.declared.plan.ColumnPlan.{ColumnPlan};
 ghost use Rattle.orc_columns.specs.declared.value_reader.ValueReader.TheVariants as reader;
 ghost use Rattle.orc_columns.specs.Batches.{HoldsNoRead, IsTyped, TotalOf, ReadsPlan, ValuesGoOn, ValuesBreak, EntriesRead, EntriesFail};
@@ -30,7 +28,7 @@ use crate::text_bytes::read_bytes;
 use orc_values::{ColumnValues, Texts};
 use outside::{Feed, NoMemory};
 use row_flags::BATCH;
-use row_texts::{ends_of, is_any_past, push_rows};
+use row_texts::{ends_of, is_any_past, push_chosen};
 use std::alloc::Global;
 
 /// Texts of a dictionary, each spelled by the number of its entry in DATA.
@@ -42,38 +40,30 @@ pub(crate) struct DictionaryReader {
     pub(crate) places: Integers,
 }
 
-/// The rows of a batch of texts of a dictionary, in the memory of an older batch.
-pub(crate) fn dictionary_rows<F: Feed>(
+/// The next texts of a dictionary, in the memory of an older batch.
+pub(crate) fn next_places<F: Feed>(
     dictionary: &mut DictionaryReader,
     alloc: Global,
     feed: &mut F,
-    flags: &[bool],
     count: usize,
     older: ColumnValues,
 ) -> Result<ColumnValues, ColumnFault>
-    requires few { length flags.now ≤ 1024 }
-    requires counted { count ≡ present_count flags.now }
+    requires few { count ≤ 1024 }
     ensures spelling { spelling_in (reader.Dictionary dictionary.new) ≡ spelling_in (reader.Dictionary dictionary.old) }
-    ensures rows { IfOk result (λ typed. entries_in typed ≡ length flags.now) }
+    ensures count { IfOk result (λ typed. entries_in typed ≡ count) }
     ensures typed { IfOk result (IsTyped (spelling_in (reader.Dictionary dictionary.old))) }
-    ensures kept { (numbers : List ℤ) → IfOk result (λ typed. AreKept flags.now typed numbers) }
     ensures ready { (plan : ColumnPlan) → ReadsPlan plan (reader.Dictionary dictionary.old)
         → OnOk result (ReadsPlan plan (reader.Dictionary dictionary.new)) }
     ensures no_read { IfErr result HoldsNoRead }
     ensures draws { (plan : ColumnPlan) → StreamsDiffer plan → ReadsPlan plan (reader.Dictionary dictionary.old) →
         Draws F.rest F.fed F.fault_count plan (alone plan.body) feed.old feed.new
-        (ValuesGoOn plan.dictionary_size flags.now (reader.Dictionary dictionary.old) (reader.Dictionary dictionary.new))
-        (ValuesBreak plan.dictionary_size (present_count flags.now) (reader.Dictionary dictionary.old)) result }
+        (ValuesGoOn plan.dictionary_size (reader.Dictionary dictionary.old) (reader.Dictionary dictionary.new))
+        (ValuesBreak plan.dictionary_size count (reader.Dictionary dictionary.old)) result }
 {
     let mut places = [0; BATCH];
     fill_numbers(&mut dictionary.places, feed, &mut places, count)?;
     let (places, _) = places.split_at(count);
-    let texts = looked_up(
-        &dictionary.entries,
-        flags,
-        places,
-        texts_memory(alloc, older),
-    )?;
+    let texts = looked_up(&dictionary.entries, places, texts_memory(alloc, older))?;
     Ok(ColumnValues::Texts(texts))
 }
 
@@ -91,26 +81,20 @@ fn texts_memory(alloc: Global, older: ColumnValues) -> Texts
     }
 }
 
-/// The texts of rows, by the numbers of the entries of those that aren't null.
+/// The texts of some entries, by their numbers.
 ///
 /// Answers `IndexOutOfDictionary` where a number isn't below the number of entries.
-fn looked_up(
-    entries: &Texts,
-    flags: &[bool],
-    places: &[i64],
-    texts: Texts,
-) -> Result<Texts, ColumnFault>
-    requires dense { length places.now ≡ present_count flags.now }
+fn looked_up(entries: &Texts, places: &[i64], texts: Texts) -> Result<Texts, ColumnFault>
     requires none { texts ≡ [] }
     ensures below { IfOk result (λ _. All (λ place. place < length entries.now) (places_of places.now)) }
-    ensures texts { IfOk result (λ texts. texts ≡ row_texts flags.now (chosen entries.now (places_of places.now))) }
+    ensures texts { IfOk result (λ texts. texts ≡ chosen entries.now (places_of places.now)) }
     ensures refused { IfErr result (IsOutOf entries.now places.now) }
 {
     if is_any_past(places, entries.len()) {
         return Err(ColumnFault::IndexOutOfDictionary);
     }
     let mut texts = texts;
-    if push_rows(entries, flags, places, &mut texts).is_err() {
+    if push_chosen(entries, places, &mut texts).is_err() {
         return Err(ColumnFault::NoMemory);
     }
     Ok(texts)

@@ -1,4 +1,4 @@
-//! Flags of rows, and values that aren't null, read to the front of the list of a batch's rows.
+//! Flags of rows, and values that aren't null, read to the front of a list.
 ghost use Rattle.std.specs.Prelude.{◌≡◌, ◌≤◌, length, take, drop, None, OnOk, IfErr};
 ghost use Rattle.outside.specs.Reading.{placed};
 ghost use Rattle.orc_columns.specs.declared.plan.ColumnPlan.{ColumnPlan};
@@ -83,25 +83,20 @@ pub(crate) fn fill_lengths<F: Feed>(
     }
 }
 
-/// Gives the next bits of DATA, and leaves the entries behind them.
+/// Gives the next bits of DATA.
 pub(crate) fn fill_bits<F: Feed>(
     bits: &mut BitStream,
     feed: &mut F,
-    entries: &mut [bool],
-    count: usize,
+    values: &mut [bool],
 ) -> Result<(), ColumnFault>
-    requires { count ≤ length entries.old }
-    ensures len { length entries.new ≡ length entries.old }
-    ensures behind { drop count entries.new ≡ drop count entries.old }
     ensures stream { bits.new.stream ≡ bits.old.stream }
     ensures whole { bits.old.fault ≡ None → OnOk result (bits.new.fault ≡ None) }
     ensures no_read { IfErr result HoldsNoRead }
     ensures draws { (plan : ColumnPlan) → StreamsDiffer plan → bits.old.stream ≡ plan.body → bits.old.fault ≡ None →
         Draws F.rest F.fed F.fault_count plan (alone plan.body) feed.old feed.new
-        (BitsGoOn bits.old bits.new) (BitsBreak bits.old count) (placed (take count entries.new) result) }
+        (BitsGoOn bits.old bits.new) (BitsBreak bits.old (length values.old)) (placed values.new result) }
 {
-    let (front, _) = entries.split_at_mut(count);
-    match bits.fill(feed, front) {
+    match bits.fill(feed, values) {
         Ok(()) => Ok(()),
         Err(fault) => Err(of_run(StreamName::Body, fault)),
     }

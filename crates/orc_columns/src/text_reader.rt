@@ -1,10 +1,6 @@
 //! Texts that are spelled one by one.
-ghost use Rattle.std.specs.Prelude.{◌≡◌, ◌∷◌, ◌≤◌, ℤ, List, length, map, sum, unsigned_abs, All, OnOk, IfOk, IfErr};
-ghost use Rattle.std.specs.Int.{IsNonNegative};
+ghost use Rattle.std.specs.Prelude.{◌≡◌, ◌∷◌, ◌≤◌, OnOk, IfOk, IfErr};
 ghost use Rattle.orc_values.specs.Column.{entries_in};
-ghost use Rattle.orc_values.specs.Dense.{AreKept};
-ghost use Rattle.orc_values.specs.Texts.{slices};
-ghost use Rattle.orc_values.specs.Woven.{present_count, woven, aligned};
 ghost use Rattle.orc_columns.specs.declared.plan.ColumnPlan.{ColumnPlan};
 ghost use Rattle.orc_columns.specs.declared.value_reader.ValueReader.TheVariants as reader;
 ghost use Rattle.orc_columns.specs.Batches.{HoldsNoRead, IsTyped, ReadsPlan, ValuesGoOn, ValuesBreak};
@@ -16,7 +12,7 @@ use crate::fault::ColumnFault;
 use crate::integers::Integers;
 use crate::lengths::next_lengths;
 use crate::text_bytes::read_bytes;
-use orc_values::{ColumnValues, Texts, lay_ends};
+use orc_values::{ColumnValues, Texts};
 use outside::Feed;
 use row_flags::BATCH;
 use row_texts::laid_texts;
@@ -33,36 +29,33 @@ pub(crate) struct TextReader {
     pub(crate) left: u64,
 }
 
-/// The rows of a batch of texts, in the memory of an older batch.
-pub(crate) fn text_rows<F: Feed>(
+/// The next texts, in the memory of an older batch.
+pub(crate) fn next_texts<F: Feed>(
     texts: &mut TextReader,
     alloc: Global,
     feed: &mut F,
-    flags: &[bool],
     count: usize,
     older: ColumnValues,
 ) -> Result<ColumnValues, ColumnFault>
-    requires few { length flags.now ≤ 1024 }
-    requires counted { count ≡ present_count flags.now }
+    requires few { count ≤ 1024 }
     ensures spelling { spelling_in (reader.Texts texts.new) ≡ spelling_in (reader.Texts texts.old) }
-    ensures rows { IfOk result (λ typed. entries_in typed ≡ length flags.now) }
+    ensures count { IfOk result (λ typed. entries_in typed ≡ count) }
     ensures typed { IfOk result (IsTyped (spelling_in (reader.Texts texts.old))) }
-    ensures kept { (numbers : List ℤ) → IfOk result (λ typed. AreKept flags.now typed numbers) }
     ensures ready { (plan : ColumnPlan) → ReadsPlan plan (reader.Texts texts.old) → OnOk result (ReadsPlan plan (reader.Texts texts.new)) }
     ensures no_read { IfErr result HoldsNoRead }
     ensures draws { (plan : ColumnPlan) → StreamsDiffer plan → ReadsPlan plan (reader.Texts texts.old) →
         Draws F.rest F.fed F.fault_count plan (plan.length ∷ alone plan.body) feed.old feed.new
-        (ValuesGoOn plan.dictionary_size flags.now (reader.Texts texts.old) (reader.Texts texts.new))
-        (ValuesBreak plan.dictionary_size (present_count flags.now) (reader.Texts texts.old)) result }
+        (ValuesGoOn plan.dictionary_size (reader.Texts texts.old) (reader.Texts texts.new))
+        (ValuesBreak plan.dictionary_size count (reader.Texts texts.old)) result }
 {
     let (mut bytes, mut ends) = text_memory(alloc, older);
-    ends.resize(flags.len(), 0)?;
+    ends.resize(count, 0)?;
     let mut lengths = [0; BATCH];
     let total = next_lengths(&mut texts.lengths, feed, &mut lengths, count, texts.left)?;
     read_bytes(feed, texts.data, &mut bytes, total)?;
     texts.left -= total;
     let (lengths, _) = lengths.split_at(count);
-    Ok(ColumnValues::Texts(laid_texts(flags, lengths, bytes, ends)))
+    Ok(ColumnValues::Texts(laid_texts(lengths, bytes, ends)))
 }
 
 /// The memory of an older batch of texts, if it is one: for their bytes and for their ends.

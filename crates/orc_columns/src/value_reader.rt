@@ -1,8 +1,6 @@
 //! The values of a column that aren't null, a batch at a time.
-ghost use Rattle.std.specs.Prelude.{◌≡◌, ◌≤◌, ℤ, List, [], length, Some, OnOk, IfOk, IfErr};
+ghost use Rattle.std.specs.Prelude.{◌≡◌, ◌≤◌, [], Some, OnOk, IfOk, IfErr};
 ghost use Rattle.orc_values.specs.Column.{entries_in};
-ghost use Rattle.orc_values.specs.Dense.{AreKept};
-ghost use Rattle.orc_values.specs.Woven.{present_count};
 ghost use Rattle.orc_columns.specs.declared.plan.ColumnPlan.{ColumnPlan};
 ghost use Rattle.orc_columns.specs.declared.value_reader.ValueReader.TheVariants as reader;
 ghost use Rattle.orc_columns.specs.Batches.{HoldsNoRead, IsTyped, ReadsPlan, ValuesGoOn, ValuesBreak, ValuesBegin, ValuesFailAtStart};
@@ -11,14 +9,14 @@ ghost use Rattle.orc_columns.specs.Midway.{spelling_in};
 ghost use Rattle.orc_columns.specs.Reader.{HasLengths};
 ghost use Rattle.orc_columns.specs.Turns.{alone, value_streams, start_by};
 
-use crate::dictionary::{DictionaryReader, dictionary_rows, read_entries};
+use crate::dictionary::{DictionaryReader, next_places, read_entries};
 use crate::fault::ColumnFault;
 use crate::fills::{fill_bits, fill_numbers};
 use crate::integers::Integers;
 use crate::plan::ColumnPlan;
 use crate::spelling::Spelling;
-use crate::text_reader::{TextReader, text_rows};
-use orc_values::{ColumnValues, spread, spread_numbers};
+use crate::text_reader::{TextReader, next_texts};
+use orc_values::ColumnValues;
 use outside::Feed;
 use row_flags::BitStream;
 use std::alloc::Global;
@@ -33,39 +31,31 @@ pub(crate) enum ValueReader {
 }
 
 impl ValueReader {
-    /// The rows of the next batch, in the memory of an older one: a value for each flag that is set, of which there are `count`.
-    ///
-    /// Of numbers, where a row is null, it leaves those that aren't in `numbers`, one behind the other.
+    /// The next `count` values, in the memory of an older batch.
     pub(crate) fn fill<F: Feed>(
         &mut self,
         alloc: Global,
         feed: &mut F,
-        flags: &[bool],
         count: usize,
         older: ColumnValues,
-        numbers: &mut Vec<i64>,
     ) -> Result<ColumnValues, ColumnFault>
-        requires few { length flags.now ≤ 1024 }
-        requires counted { count ≡ present_count flags.now }
+        requires few { count ≤ 1024 }
         ensures spelling { spelling_in self.new ≡ spelling_in self.old }
-        ensures rows { IfOk result (λ typed. entries_in typed ≡ length flags.now) }
+        ensures count { IfOk result (λ typed. entries_in typed ≡ count) }
         ensures typed { IfOk result (IsTyped (spelling_in self.old)) }
-        ensures kept { IfOk result (λ typed. AreKept flags.now typed numbers.new.items) }
         ensures ready { (plan : ColumnPlan) → ReadsPlan plan self.old → OnOk result (ReadsPlan plan self.new) }
         ensures no_read { IfErr result HoldsNoRead }
         ensures draws { (plan : ColumnPlan) → StreamsDiffer plan → ReadsPlan plan self.old →
             Draws F.rest F.fed F.fault_count plan (value_streams plan (spelling_in self.old)) feed.old feed.new
-            (ValuesGoOn plan.dictionary_size flags.now self.old self.new)
-            (ValuesBreak plan.dictionary_size (present_count flags.now) self.old) result }
+            (ValuesGoOn plan.dictionary_size self.old self.new)
+            (ValuesBreak plan.dictionary_size count self.old) result }
     {
         match self {
-            ValueReader::Bits(bits) => bit_rows(bits, alloc, feed, flags, count, older),
-            ValueReader::Integers(integers) => {
-                number_rows(integers, alloc, feed, flags, count, older, numbers)
-            }
-            ValueReader::Texts(texts) => text_rows(texts, alloc, feed, flags, count, older),
+            ValueReader::Bits(bits) => next_bits(bits, alloc, feed, count, older),
+            ValueReader::Integers(integers) => next_numbers(integers, alloc, feed, count, older),
+            ValueReader::Texts(texts) => next_texts(texts, alloc, feed, count, older),
             ValueReader::Dictionary(dictionary) => {
-                dictionary_rows(dictionary, alloc, feed, flags, count, older)
+                next_places(dictionary, alloc, feed, count, older)
             }
         }
     }
@@ -107,61 +97,52 @@ pub(crate) fn start_values<F: Feed>(
     }
 }
 
-/// The rows of a batch of truth values, in the memory of an older batch.
-fn bit_rows<F: Feed>(
+/// The next truth values, in the memory of an older batch.
+fn next_bits<F: Feed>(
     bits: &mut BitStream,
     alloc: Global,
     feed: &mut F,
-    flags: &[bool],
     count: usize,
     older: ColumnValues,
 ) -> Result<ColumnValues, ColumnFault>
-    requires counted { count ≡ present_count flags.now }
-    ensures rows { IfOk result (λ typed. entries_in typed ≡ length flags.now) }
+    ensures count { IfOk result (λ typed. entries_in typed ≡ count) }
     ensures typed { IfOk result (IsTyped (spelling_in (reader.Bits bits.old))) }
-    ensures kept { (numbers : List ℤ) → IfOk result (λ typed. AreKept flags.now typed numbers) }
     ensures ready { (plan : ColumnPlan) → ReadsPlan plan (reader.Bits bits.old) → OnOk result (ReadsPlan plan (reader.Bits bits.new)) }
     ensures no_read { IfErr result HoldsNoRead }
     ensures draws { (plan : ColumnPlan) → StreamsDiffer plan → ReadsPlan plan (reader.Bits bits.old) →
         Draws F.rest F.fed F.fault_count plan (alone plan.body) feed.old feed.new
-        (ValuesGoOn plan.dictionary_size flags.now (reader.Bits bits.old) (reader.Bits bits.new))
-        (ValuesBreak plan.dictionary_size (present_count flags.now) (reader.Bits bits.old)) result }
+        (ValuesGoOn plan.dictionary_size (reader.Bits bits.old) (reader.Bits bits.new))
+        (ValuesBreak plan.dictionary_size count (reader.Bits bits.old)) result }
 {
-    let mut entries = bool_memory(alloc, older);
-    entries.resize(flags.len(), false)?;
-    fill_bits(bits, feed, &mut entries, count)?;
-    spread(flags, count, &mut entries);
-    Ok(ColumnValues::Bools(entries))
+    let mut values = bool_memory(alloc, older);
+    values.resize(count, false)?;
+    fill_bits(bits, feed, &mut values)?;
+    Ok(ColumnValues::Bools(values))
 }
 
-/// The rows of a batch of numbers, in the memory of an older batch.
-fn number_rows<F: Feed>(
+/// The next numbers, in the memory of an older batch.
+fn next_numbers<F: Feed>(
     integers: &mut Integers,
     alloc: Global,
     feed: &mut F,
-    flags: &[bool],
     count: usize,
     older: ColumnValues,
-    numbers: &mut Vec<i64>,
 ) -> Result<ColumnValues, ColumnFault>
-    requires counted { count ≡ present_count flags.now }
     ensures spelling { integers.new.version ≡ integers.old.version }
-    ensures rows { IfOk result (λ typed. entries_in typed ≡ length flags.now) }
+    ensures count { IfOk result (λ typed. entries_in typed ≡ count) }
     ensures typed { IfOk result (IsTyped (spelling_in (reader.Integers integers.old))) }
-    ensures kept { IfOk result (λ typed. AreKept flags.now typed numbers.new.items) }
     ensures ready { (plan : ColumnPlan) → ReadsPlan plan (reader.Integers integers.old)
         → OnOk result (ReadsPlan plan (reader.Integers integers.new)) }
     ensures no_read { IfErr result HoldsNoRead }
     ensures draws { (plan : ColumnPlan) → StreamsDiffer plan → ReadsPlan plan (reader.Integers integers.old) →
         Draws F.rest F.fed F.fault_count plan (alone plan.body) feed.old feed.new
-        (ValuesGoOn plan.dictionary_size flags.now (reader.Integers integers.old) (reader.Integers integers.new))
-        (ValuesBreak plan.dictionary_size (present_count flags.now) (reader.Integers integers.old)) result }
+        (ValuesGoOn plan.dictionary_size (reader.Integers integers.old) (reader.Integers integers.new))
+        (ValuesBreak plan.dictionary_size count (reader.Integers integers.old)) result }
 {
-    let mut entries = number_memory(alloc, older);
-    entries.resize(flags.len(), 0)?;
-    fill_numbers(integers, feed, &mut entries, count)?;
-    spread_numbers(flags, count, &mut entries, numbers)?;
-    Ok(ColumnValues::Ints(entries))
+    let mut values = number_memory(alloc, older);
+    values.resize(count, 0)?;
+    fill_numbers(integers, feed, &mut values, count)?;
+    Ok(ColumnValues::Ints(values))
 }
 
 /// The memory of an older batch of truth values, if it is one.

@@ -1,6 +1,3 @@
-mod Aligned
+mod ColumnRows
 mod Counts
-mod Laid
 mod Places
-mod Spreads
-mod Whole

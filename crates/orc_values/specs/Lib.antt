@@ -4,4 +4,4 @@ pub mod Texts
 pub mod TextsLaws
 pub mod Shown
 pub mod Column
-pub mod Dense
+pub mod ColumnLaws

@@ -1,7 +1,5 @@
 -- Texts that stand one behind the other in one list of bytes.
-use Rattle.std.specs.Prelude.{ℕ, zero, suc, ◌+◌, ◌≤◌, Bool, List, [], ◌∷◌, length, map, slice_range}
-use Rattle.std.specs.Option.{unwrap_or}
-use Rattle.orc_values.specs.Woven.{woven}
+use Rattle.std.specs.Prelude.{ℕ, zero, suc, ◌+◌, ◌≤◌, List, [], ◌∷◌, length, slice_range}
 
 -- each text begins where the one before it ends, and the first at a place
 abbrev pub texts_from : ℕ → List ℕ → List ℕ → List (List ℕ)
@@ -34,7 +32,3 @@ slices at (len ∷ lens) bytes = slice_range bytes at (at + len) ∷ slices (at 
 abbrev pub running_ends : ℕ → List ℕ → List ℕ
 running_ends at [] = []
 running_ends at (len ∷ lens) = (at + len) ∷ running_ends (at + len) lens
-
--- the lengths of the texts of rows, of which some have none: the next of the lengths, or 0
-abbrev pub row_lens : List Bool → List ℕ → List ℕ
-row_lens present lens = map (λ len. unwrap_or len 0) (woven present lens)

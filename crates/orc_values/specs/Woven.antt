@@ -15,9 +15,3 @@ woven [] values = []
 woven (false ∷ present) values = None ∷ woven present values
 woven (true ∷ present) [] = None ∷ woven present []
 woven (true ∷ present) (value ∷ values) = Some value ∷ woven present values
-
--- a list of one entry for each row: the entry of a row whose flag isn't set counts for nothing
-abbrev pub aligned : {A : Type 0} → List Bool → List A → List (Option A)
-aligned [] entries = []
-aligned (p ∷ present) [] = []
-aligned (p ∷ present) (entry ∷ entries) = (if p then Some entry else None) ∷ aligned present entries

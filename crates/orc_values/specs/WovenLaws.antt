@@ -1,7 +1,9 @@
 -- What follows of flags and values that are joined, and of rows that all have a value.
-use Rattle.std.specs.Prelude.{◌≡◌, ◌+◌, ◌≤◌, Bool, true, false, List, [], ◌∷◌, ◌++◌, length, map, Option, Some, None}
-use Rattle.std.proofs.Common.{arith, refl, ap}
-use Rattle.orc_values.specs.Woven.{present_count, woven, aligned}
+use Rattle.std.specs.Prelude.{◌≡◌, ◌+◌, ◌<◌, ◌≤◌, ℕ, Bool, true, false, List, [], ◌∷◌, ◌++◌, length, map, take, get_or, Option, Some, None}
+use Rattle.std.specs.Prelude.{if◌then◌else◌}
+use Rattle.std.proofs.Common.{arith, refl, ap, ◌∙◌}
+use Rattle.std.proofs.lemmas.List.{take_more}
+use Rattle.orc_values.specs.Woven.{present_count, woven}
 
 -- Two batches are the batch of the joined lists.
 pub woven-append : {A : Type 0} (before after : List Bool) (front back : List A) → length front ≡ present_count before →
@@ -13,16 +15,6 @@ woven-append {A} (false ∷ before) after front back h = ap (λ (l : List (Optio
 woven-append (true ∷ before) after [] back h = absurd (omega arith)
 woven-append {A} (true ∷ before) after (x ∷ front) back h = ap (λ (l : List (Option A)). Some x ∷ l)
     (woven-append before after front back (omega arith))
-
-pub aligned-append : {A : Type 0} (before after : List Bool) (front back : List A) → length front ≡ length before →
-    aligned (before ++ after) (front ++ back) ≡ aligned before front ++ aligned after back
-aligned-append [] after [] back h = refl
-aligned-append [] after (x ∷ front) back h = absurd (omega arith)
-aligned-append (p ∷ before) after [] back h = absurd (omega arith)
-aligned-append {A} (true ∷ before) after (x ∷ front) back h = ap (λ (l : List (Option A)). Some x ∷ l)
-    (aligned-append before after front back (omega arith))
-aligned-append {A} (false ∷ before) after (x ∷ front) back h = ap (λ (l : List (Option A)). None ∷ l)
-    (aligned-append before after front back (omega arith))
 
 pub present_count-append : (before after : List Bool) → present_count (before ++ after) ≡ present_count before + present_count after
 present_count-append [] after = omega arith
@@ -40,12 +32,6 @@ length-woven (false ∷ present) values = omega (arith, length-woven present val
 length-woven {A} (true ∷ present) [] = let none : List A = [] in omega (arith, length-woven present none)
 length-woven (true ∷ present) (x ∷ values) = omega (arith, length-woven present values)
 
-pub length-aligned : {A : Type 0} (present : List Bool) (entries : List A) → length present ≡ length entries
-    → length (aligned present entries) ≡ length present
-length-aligned [] entries h = refl
-length-aligned (p ∷ present) [] h = absurd (omega arith)
-length-aligned (p ∷ present) (x ∷ entries) h = omega (arith, length-aligned present entries (omega arith))
-
 -- where each row has a value, the dense list and the list of the rows are one
 pub woven-all : {A : Type 0} (present : List Bool) (values : List A) → length present ≡ length values
     → present_count present ≡ length present → woven present values ≡ map (λ x. Some x) values
@@ -56,11 +42,14 @@ woven-all (false ∷ present) (x ∷ values) h all = absurd (omega (arith, prese
 woven-all {A} (true ∷ present) (x ∷ values) h all = ap (λ (l : List (Option A)). Some x ∷ l)
     (woven-all present values (omega arith) (omega arith))
 
-pub aligned-all : {A : Type 0} (present : List Bool) (values : List A) → length present ≡ length values
-    → present_count present ≡ length present → aligned present values ≡ map (λ x. Some x) values
-aligned-all [] [] h all = refl
-aligned-all [] (x ∷ values) h all = absurd (omega arith)
-aligned-all (p ∷ present) [] h all = absurd (omega arith)
-aligned-all (false ∷ present) (x ∷ values) h all = absurd (omega (arith, present_count-le present))
-aligned-all {A} (true ∷ present) (x ∷ values) h all = ap (λ (l : List (Option A)). Some x ∷ l)
-    (aligned-all present values (omega arith) (omega arith))
+-- how many flags are set, with one flag more
+one : (b : Bool) → present_count (b ∷ []) ≡ (if b then 1 else 0)
+one true = refl
+one false = refl
+
+pub count_more : (present : List Bool) (i : ℕ) → i < length present
+    → present_count (take (i + 1) present) ≡ present_count (take i present) + (if get_or present i false then 1 else 0)
+count_more present i h =
+    ap present_count (take_more present i false h)
+    ∙ present_count-append (take i present) (get_or present i false ∷ [])
+    ∙ ap (λ (n : ℕ). present_count (take i present) + n) (one (get_or present i false))

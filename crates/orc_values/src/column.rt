@@ -1,15 +1,12 @@
 //! A batch of a column.
 
-ghost use Rattle.std.specs.Prelude.{◌≡◌, ◌==◌, ◌<◌, [], length, slice_get, FitsSigned, IfSome};
-ghost use Rattle.std.specs.Option.{IsSome};
+ghost use Rattle.std.specs.Prelude.{◌≡◌, ◌==◌, ◌<◌, [], length, take, slice_get, FitsSigned};
 ghost use Rattle.std.specs.Int.{w64};
 ghost use Rattle.orc_values.specs.Shown.{shown};
 ghost use Rattle.orc_values.specs.Column.{column_of, entries_in, present_of};
-ghost use Rattle.orc_values.specs.Dense.{IsDense, AreKept, AreWhole};
 ghost use Rattle.orc_values.specs.Woven.{present_count};
 
 use crate::column_values::ColumnValues;
-use crate::dense_values::DenseValues;
 use crate::rows::count_present;
 use crate::value::ValueRef;
 use std::alloc::Global;
@@ -17,29 +14,24 @@ use std::marker::Model;
 
 /// The values of some rows of one column.
 ///
-/// They stand in one typed list, beside flags that say which rows have a value, and how many have. Contracts see it as the
-/// list of the rows' values. Numbers may stand a second time without the rows that are null.
+/// Those that aren't null stand in one typed list, one behind the other, beside flags that say which rows have one. Contracts see
+/// it as the list of the rows' values.
 #[derive(Drop)]
 pub struct Column {
     present: Vec<bool>,
-    count: usize,
     values: ColumnValues,
-    numbers: Option<Vec<i64>>,
 }
 
 impl Model for Column {
-    ghost use Rattle.std.specs.Prelude.{◌≡◌, length, IfSome};
+    ghost use Rattle.std.specs.Prelude.{◌≡◌};
     ghost use Rattle.orc_values.specs.Column.{RowValues, column_of, entries_in};
-    ghost use Rattle.orc_values.specs.Dense.{AreKept};
     ghost use Rattle.orc_values.specs.Woven.{present_count};
 
     ghost Value = { RowValues };
 
     ghost view = { λ column. column_of column.present.items column.values };
 
-    ghost invariant = { λ column. (length column.present.items ≡ entries_in column.values)
-        × (column.count ≡ present_count column.present.items)
-        × IfSome column.numbers (λ numbers. AreKept column.present.items column.values numbers.items) };
+    ghost invariant = { λ column. entries_in column.values ≡ present_count column.present.items };
 }
 
 impl Column {
@@ -49,48 +41,18 @@ impl Column {
     {
         Column {
             present: Vec::new(alloc),
-            count: 0,
             values: ColumnValues::Ints(Vec::new(alloc)),
-            numbers: None,
         }
     }
 
-    /// The rows of a typed list, of which those have a value whose flag is set.
+    /// The rows of a flag each, of which those have a value whose flag is set: the next of a typed list.
     ///
-    /// Flags and list have one entry for each row. It keeps both: no memory is taken.
+    /// The list has one value for each flag that is set. It keeps both: no memory is taken.
     pub fn new(present: Vec<bool>, values: ColumnValues) -> Column
-        requires { length present.items ≡ entries_in values }
+        requires { entries_in values ≡ present_count present.items }
         ensures { result ≡ column_of present.items values }
     {
-        let count = count_present(&present);
-        Column {
-            present,
-            count,
-            values,
-            numbers: None,
-        }
-    }
-
-    /// The rows of a typed list of which `count` have a value, and beside it the numbers that aren't null, one behind the other.
-    ///
-    /// Only for numbers, and where a row is null, does it matter what `numbers` holds. It keeps all lists: no memory is taken.
-    pub fn with_numbers(
-        present: Vec<bool>,
-        count: usize,
-        values: ColumnValues,
-        numbers: Vec<i64>,
-    ) -> Column
-        requires rows { length present.items ≡ entries_in values }
-        requires count { count ≡ present_count present.items }
-        requires kept { AreKept present.items values numbers.items }
-        ensures { result ≡ column_of present.items values }
-    {
-        Column {
-            present,
-            count,
-            values,
-            numbers: Some(numbers),
-        }
+        Column { present, values }
     }
 
     /// How many rows there are.
@@ -107,42 +69,36 @@ impl Column {
         self.present.is_empty()
     }
 
-    /// How many rows have a value. It is kept, so no row is looked at.
+    /// How many rows have a value. No row is looked at.
     pub fn count(&self) -> usize
         ensures { result ≡ present_count (present_of self.now) }
     {
-        self.count
-    }
-
-    /// The values that aren't null, one behind the other, lent.
-    ///
-    /// It answers None only where a row is null and they don't stand so: of texts and truth values, and of numbers that weren't
-    /// given so.
-    pub fn dense(&self) -> Option<DenseValues<'_>>
-        ensures dense { IfSome result (IsDense self.now) }
-        ensures whole { present_count (present_of self.now) ≡ length self.now → IsSome result }
-    {
-        if self.count == self.present.len() {
-            return Some(all_of(&self.values));
-        }
-        match (&self.values, &self.numbers) {
-            (ColumnValues::Ints(_), Some(numbers)) => Some(DenseValues::Ints(numbers)),
-            _ => None,
-        }
+        self.values.len()
     }
 
     /// The value of a row, borrowed.
+    ///
+    /// Where a row is null it counts the flags in front of this one: whoever looks at row after row counts them, and takes `get_behind`.
     pub fn get(&self, row: usize) -> ValueRef<'_>
         requires { row < length self.now }
+        ensures { slice_get self.now row ≡ Some (shown result) }
+    {
+        self.get_behind(row, place_of(&self.present, self.values.len(), row))
+    }
+
+    /// The value of a row, borrowed, where so many of the rows in front of it have one.
+    pub fn get_behind(&self, row: usize, before: usize) -> ValueRef<'_>
+        requires row { row < length self.now }
+        requires before { before ≡ present_count (take row (present_of self.now)) }
         ensures { slice_get self.now row ≡ Some (shown result) }
     {
         if !self.present[row] {
             return ValueRef::Null;
         }
         match &self.values {
-            ColumnValues::Bools(entries) => ValueRef::Bool(entries[row]),
-            ColumnValues::Ints(entries) => ValueRef::Int(number_at(entries, row)),
-            ColumnValues::Texts(entries) => ValueRef::Text(entries.get(row)),
+            ColumnValues::Bools(values) => ValueRef::Bool(values[before]),
+            ColumnValues::Ints(values) => ValueRef::Int(number_at(values, before)),
+            ColumnValues::Texts(values) => ValueRef::Text(values.get(before)),
         }
     }
 
@@ -153,9 +109,11 @@ impl Column {
         self.present.as_slice()
     }
 
-    /// The typed list, lent: the entry of a row without a value is any.
+    /// The values that aren't null, one behind the other in the order of their rows, lent.
+    ///
+    /// Whoever sums, counts or groups needs no more of a column, and meets no null.
     pub fn values(&self) -> &ColumnValues
-        ensures rows { entries_in result.now ≡ length self.now }
+        ensures count { entries_in result.now ≡ present_count (present_of self.now) }
         ensures values { column_of (present_of self.now) result.now ≡ self.now }
     {
         &self.values
@@ -164,49 +122,32 @@ impl Column {
     /// Gives the flags and the typed list back that it was made from.
     pub fn into_parts(self) -> (Vec<bool>, ColumnValues)
         ensures present { result.0.items ≡ present_of self }
-        ensures rows { entries_in result.1 ≡ length self }
+        ensures count { entries_in result.1 ≡ present_count (present_of self) }
         ensures values { column_of (present_of self) result.1 ≡ self }
     {
-        let Column {
-            present,
-            values,
-            ..
-        } = self;
+        let Column { present, values } = self;
         (present, values)
     }
-
-    /// Gives all its lists back, for the memory of the next rows: the flags, the typed list, and some list of numbers.
-    pub fn into_memory(self, alloc: Global) -> (Vec<bool>, ColumnValues, Vec<i64>)
-        ensures present { result.0.items ≡ present_of self }
-        ensures rows { entries_in result.1 ≡ length self }
-        ensures values { column_of (present_of self) result.1 ≡ self }
-    {
-        let Column {
-            present,
-            values,
-            numbers,
-            ..
-        } = self;
-        (present, values, numbers.unwrap_or(Vec::new(alloc)))
-    }
 }
 
-/// A typed list as values of which none is null.
-fn all_of(values: &ColumnValues) -> DenseValues<'_>
-    ensures { AreWhole values.now result }
+/// Where the value of a row stands among those that aren't null: behind those of the rows in front.
+fn place_of(present: &[bool], count: usize, row: usize) -> usize
+    requires row { row < length present.now }
+    requires count { count ≡ present_count present.now }
+    ensures { result ≡ present_count (take row present.now) }
 {
-    match values {
-        ColumnValues::Bools(entries) => DenseValues::Bools(entries),
-        ColumnValues::Ints(entries) => DenseValues::Ints(entries),
-        ColumnValues::Texts(entries) => DenseValues::Texts(entries),
+    if count == present.len() {
+        return row;
     }
+    let (before, _) = present.split_at(row);
+    count_present(before)
 }
 
-/// The number at a row.
-fn number_at(entries: &[i64], row: usize) -> i64
-    requires { row < length entries.now }
-    ensures value { slice_get entries.now row ≡ Some result }
+/// The number at a place.
+fn number_at(values: &[i64], place: usize) -> i64
+    requires { place < length values.now }
+    ensures value { slice_get values.now place ≡ Some result }
     ensures fits { FitsSigned w64 result }
 {
-    entries[row]
+    values[place]
 }

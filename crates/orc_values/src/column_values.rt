@@ -5,9 +5,7 @@ ghost use Rattle.orc_values.specs.Column.{entries_in};
 
 use crate::texts::Texts;
 
-/// The values of a column, as one list of their type with an entry for each row.
-///
-/// The entry of a null row is any value of the type.
+/// The values of a column that aren't null, as one list of their type, in the order of their rows.
 #[derive(Drop)]
 pub enum ColumnValues {
     /// Of kind BOOLEAN.
@@ -19,14 +17,14 @@ pub enum ColumnValues {
 }
 
 impl ColumnValues {
-    /// How many entries there are.
+    /// How many values there are.
     pub fn len(&self) -> usize
         ensures { result ≡ entries_in self.now }
     {
         match self {
-            ColumnValues::Bools(entries) => entries.len(),
-            ColumnValues::Ints(entries) => entries.len(),
-            ColumnValues::Texts(entries) => entries.len(),
+            ColumnValues::Bools(values) => values.len(),
+            ColumnValues::Ints(values) => values.len(),
+            ColumnValues::Texts(values) => values.len(),
         }
     }
 

@@ -1,15 +1,13 @@
 //! Laws of values and their flags, as contracts of functions that do nothing.
 
 ghost use Rattle.std.specs.Prelude.{◌≡◌, ◌++◌, ℕ, Bool, List, length, sum};
-ghost use Rattle.orc_values.specs.Woven.{present_count, woven, aligned};
+ghost use Rattle.orc_values.specs.Woven.{present_count, woven};
 ghost use Rattle.orc_values.specs.Texts.{texts_from, slices, running_ends};
 
 /// Two batches are the batch of the joined lists.
 pub fn batches_join<T>()
     ensures dense { (before after : List Bool) (front back : List T) → length front ≡ present_count before →
         woven (before ++ after) (front ++ back) ≡ woven before front ++ woven after back }
-    ensures rows { (before after : List Bool) (front back : List T) → length front ≡ length before →
-        aligned (before ++ after) (front ++ back) ≡ aligned before front ++ aligned after back }
     ensures texts { (lens more front back : List ℕ) → length front ≡ sum lens →
         slices 0 (lens ++ more) (front ++ back) ≡ slices 0 lens front ++ slices 0 more back }
 {}

@@ -1,2 +1,2 @@
-mod EntryRows
+mod ChosenTexts
 mod Rooms

@@ -1,10 +1,8 @@
 -- Lengths that are none, and texts by the numbers of a dictionary's entries.
 --
 -- Source: Apache ORC specification v1, "Column Encodings".
-use Rattle.std.specs.Prelude.{ℕ, Bool, List, [], map, ℤ, pos, negsuc, slice_index_or}
+use Rattle.std.specs.Prelude.{ℕ, List, [], map, ℤ, pos, negsuc, slice_index_or}
 use Rattle.std.specs.Int.{w64, cast_unsigned}
-use Rattle.std.specs.Option.{unwrap_or}
-use Rattle.orc_values.specs.Woven.{woven}
 
 -- a number whose 64th bit is set is no length
 abbrev pub IsNegative : ℤ → Type 0
@@ -18,7 +16,3 @@ places_of numbers = map (cast_unsigned w64) numbers
 -- the entries of these numbers
 abbrev pub chosen : List (List ℕ) → List ℕ → List (List ℕ)
 chosen entries places = map (λ place. slice_index_or entries place []) places
-
--- the text of each row, empty where its flag isn't set
-abbrev pub row_texts : List Bool → List (List ℕ) → List (List ℕ)
-row_texts flags texts = map (λ text. unwrap_or text []) (woven flags texts)

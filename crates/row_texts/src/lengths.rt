@@ -3,7 +3,6 @@ ghost use Rattle.std.specs.Prelude.{◌≡◌, ◌+◌, ◌<◌, ◌^◌, ℤ, l
 ghost use Rattle.std.specs.Prelude.{IfOk, IsTrue, IsFalse};
 ghost use Rattle.std.specs.Int.{IsNonNegative};
 ghost use Rattle.orc_values.specs.Texts.{running_ends, slices};
-ghost use Rattle.orc_values.specs.Woven.{present_count, woven, aligned};
 ghost use Rattle.row_texts.specs.Lookup.{IsNegative};
 
 use orc_values::{Texts, lay_ends};
@@ -49,18 +48,16 @@ pub fn ends_of(alloc: Global, lengths: &[i64]) -> Result<Vec<usize>, NoMemory>
     Ok(ends)
 }
 
-/// The texts of rows, by the lengths of those that aren't null and by their bytes. It keeps both lists: no memory is taken.
+/// Texts by their lengths and by their bytes. It keeps both lists: no memory is taken.
 ///
-/// `ends` has an entry for each row, which is overwritten.
-pub fn laid_texts(flags: &[bool], lengths: &[i64], bytes: Vec<u8>, ends: Vec<usize>) -> Texts
-    requires rows { length ends.items ≡ length flags.now }
-    requires dense { length lengths.now ≡ present_count flags.now }
+/// `ends` has an entry for each text, which is overwritten.
+pub fn laid_texts(lengths: &[i64], bytes: Vec<u8>, ends: Vec<usize>) -> Texts
+    requires each { length lengths.now ≡ length ends.items }
     requires positive { All IsNonNegative lengths.now }
     requires all { sum (map unsigned_abs lengths.now) ≡ length bytes.items }
-    ensures rows { length result ≡ length flags.now }
-    ensures texts { aligned flags.now result ≡ woven flags.now (slices 0 (map unsigned_abs lengths.now) bytes.items) }
+    ensures { result ≡ slices 0 (map unsigned_abs lengths.now) bytes.items }
 {
     let mut ends = ends;
-    lay_ends(flags, lengths, 0, &mut ends);
+    lay_ends(lengths, &mut ends);
     Texts::new(bytes, ends)
 }

@@ -1,8 +1,7 @@
-//! Texts of rows by the numbers of a dictionary's entries.
-ghost use Rattle.std.specs.Prelude.{◌≡◌, ◌<◌, ◌≤◌, ℕ, [], length, All, Contains, OnOk, IsTrue, IsFalse};
+//! Texts by the numbers of a dictionary's entries.
+ghost use Rattle.std.specs.Prelude.{◌≡◌, ◌<◌, ◌≤◌, ◌++◌, ℕ, length, All, Contains, OnOk, IsTrue, IsFalse};
 ghost use Rattle.std.specs.Int.{w64, cast_unsigned};
-ghost use Rattle.orc_values.specs.Woven.{present_count};
-ghost use Rattle.row_texts.specs.Lookup.{places_of, row_texts, chosen};
+ghost use Rattle.row_texts.specs.Lookup.{places_of, chosen};
 
 use orc_values::Texts;
 use outside::NoMemory;
@@ -27,29 +26,16 @@ fn number_of(place: i64) -> usize
     place.cast_unsigned() as usize
 }
 
-/// Adds the text of each row to none so far: an entry, copied, or an empty one where the flag isn't set.
+/// Adds the texts of some entries behind others, copied.
 ///
-/// `places` has the number of an entry for each flag that is set, as the 64 bits that a stream spells it by. Answers `NoMemory`
-/// only where memory was refused, and what `texts` holds then isn't said.
-pub fn push_rows(
-    entries: &Texts,
-    flags: &[bool],
-    places: &[i64],
-    texts: &mut Texts,
-) -> Result<(), NoMemory>
-    requires dense { length places.now ≡ present_count flags.now }
-    requires below { All (λ place. place < length entries.now) (places_of places.now) }
-    requires none { texts.old ≡ [] }
-    ensures { OnOk result (texts.new ≡ row_texts flags.now (chosen entries.now (places_of places.now))) }
+/// `places` has the numbers of the entries, as the 64 bits that a stream spells them by. Answers `NoMemory` only where memory was
+/// refused, and what `texts` holds then isn't said.
+pub fn push_chosen(entries: &Texts, places: &[i64], texts: &mut Texts) -> Result<(), NoMemory>
+    requires { All (λ place. place < length entries.now) (places_of places.now) }
+    ensures { OnOk result (texts.new ≡ texts.old ++ chosen entries.now (places_of places.now)) }
 {
-    let mut used = 0;
-    for present in flags {
-        if *present {
-            texts.push(entries.get(number_of(places[used])))?;
-            used += 1;
-        } else {
-            texts.push(b"".as_slice())?;
-        }
+    for place in places {
+        texts.push(entries.get(number_of(*place)))?;
     }
     Ok(())
 }

@@ -1,6 +1,5 @@
 use Rattle.std.proofs.Common.{Bool, refl, ap, ◌∙◌}
 use Rattle.std.specs.Ordering.{bool_cmp}
-use Rattle.orc_values.specs.Woven.{aligned}
 use Rattle.orc_values.specs.declared.value.Value.TheVariants as value
 use Rattle.fragment_plan.specs.declared.test.Check.TheVariants as check
 use Rattle.batch_masks.specs.Kept.{both}
@@ -12,16 +11,16 @@ pub returns-in-Bool : goal.returns-in-Bool
 returns-in-Bool c =
     let narrowed = c.narrow_bools.ensures in
     rw c.in-Bool.is (narrowed ∙ ap (both c.args.mask.now)
-    (checked (check_holds (check.Compare c.args.op (value.Bool c.in-Bool.truth))) (λ (b : Bool). value.Bool b) (λ (b : Bool). satisfies c.args.op (bool_cmp b c.in-Bool.truth)) refl (λ x. refl) (aligned c.args.present.now c.args.entries.now)))
+    (checked (check_holds (check.Compare c.args.op (value.Bool c.in-Bool.truth))) (λ (b : Bool). value.Bool b) (λ (b : Bool). satisfies c.args.op (bool_cmp b c.in-Bool.truth)) (λ x. refl) c.args.values.now))
 
 pub returns-in-Null : goal.returns-in-Null
 returns-in-Null c =
-    rw c.in-Null.is (c.narrow_none.ensures ∙ none_holds (check_holds (check.Compare c.args.op value.Null)) (λ (b : Bool). value.Bool b) refl (λ x. refl) c.args.mask.now c.args.present.now c.args.entries.now c.requires.flags c.requires.rows)
+    rw c.in-Null.is (c.narrow_none.ensures ∙ none_holds (check_holds (check.Compare c.args.op value.Null)) (λ (b : Bool). value.Bool b) (λ x. refl) c.args.mask.now c.args.values.now c.requires)
 
 pub returns-in-Int : goal.returns-in-Int
 returns-in-Int c =
-    rw c.in-Int.is (c.narrow_none-in-Int.ensures ∙ none_holds (check_holds (check.Compare c.args.op (value.Int c.in-Int.field-0))) (λ (b : Bool). value.Bool b) refl (λ x. refl) c.args.mask.now c.args.present.now c.args.entries.now c.requires.flags c.requires.rows)
+    rw c.in-Int.is (c.narrow_none-in-Int.ensures ∙ none_holds (check_holds (check.Compare c.args.op (value.Int c.in-Int.field-0))) (λ (b : Bool). value.Bool b) (λ x. refl) c.args.mask.now c.args.values.now c.requires)
 
 pub returns-in-Text : goal.returns-in-Text
 returns-in-Text c =
-    rw c.in-Text.is (c.narrow_none-in-Text.ensures ∙ none_holds (check_holds (check.Compare c.args.op (value.Text c.in-Text.field-0))) (λ (b : Bool). value.Bool b) refl (λ x. refl) c.args.mask.now c.args.present.now c.args.entries.now c.requires.flags c.requires.rows)
+    rw c.in-Text.is (c.narrow_none-in-Text.ensures ∙ none_holds (check_holds (check.Compare c.args.op (value.Text c.in-Text.field-0))) (λ (b : Bool). value.Bool b) (λ x. refl) c.args.mask.now c.args.values.now c.requires)

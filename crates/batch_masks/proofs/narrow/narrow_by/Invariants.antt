@@ -1,9 +1,8 @@
-use Rattle.std.proofs.Common.{◌≡◌, ◌&&◌, ℕ, ◌<◌, ◌≤◌, get_or, false}
-use Rattle.batch_masks.specs.Checks.{present_holds}
+use Rattle.std.proofs.Common.{◌≡◌, ◌&&◌, ℕ, ◌<◌, ◌≤◌, get_or, map, false}
 use Rattle.batch_masks.proofs.narrow.narrow_by.Given as goal
 
-abbrev pub invariant-loop-row : goal.invariant-loop-row
-invariant-loop-row g l = record {
-  done : (k : ℕ) → k < l.row → get_or l.mask k false ≡ (get_or l.fn.mask k false && get_or (present_holds (λ n. g.C.Compare.compares n l.literal) l.present l.entries) k false);
-  rest : (k : ℕ) → l.row ≤ k → get_or l.mask k false ≡ get_or l.fn.mask k false;
+abbrev pub invariant-loop-place : goal.invariant-loop-place
+invariant-loop-place g l = record {
+  done : (k : ℕ) → k < l.place → get_or l.mask k false ≡ (get_or l.fn.mask k false && get_or (map (λ n. g.C.Compare.compares n l.literal) l.values) k false);
+  rest : (k : ℕ) → l.place ≤ k → get_or l.mask k false ≡ get_or l.fn.mask k false;
 }

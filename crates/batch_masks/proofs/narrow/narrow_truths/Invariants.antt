@@ -1,9 +1,8 @@
-use Rattle.std.proofs.Common.{◌≡◌, ◌&&◌, ℕ, ◌<◌, ◌≤◌, get_or, false, if◌then◌else◌}
-use Rattle.batch_masks.specs.Checks.{present_holds}
+use Rattle.std.proofs.Common.{◌≡◌, ◌&&◌, ℕ, ◌<◌, ◌≤◌, get_or, map, false, if◌then◌else◌}
 use Rattle.batch_masks.proofs.narrow.narrow_truths.Given as goal
 
-abbrev pub invariant-loop-row : goal.invariant-loop-row
-invariant-loop-row l = record {
-  done : (k : ℕ) → k < l.row → get_or l.mask k false ≡ (get_or l.fn.mask k false && get_or (present_holds (λ b. if b then l.of_true else l.of_false) l.present l.entries) k false);
-  rest : (k : ℕ) → l.row ≤ k → get_or l.mask k false ≡ get_or l.fn.mask k false;
+abbrev pub invariant-loop-place : goal.invariant-loop-place
+invariant-loop-place l = record {
+  done : (k : ℕ) → k < l.place → get_or l.mask k false ≡ (get_or l.fn.mask k false && get_or (map (λ b. if b then l.of_true else l.of_false) l.values) k false);
+  rest : (k : ℕ) → l.place ≤ k → get_or l.mask k false ≡ get_or l.fn.mask k false;
 }

@@ -1,43 +1,49 @@
-use Rattle.std.proofs.Common.{length, ap, ◌∙◌, ◌≡◌, sym, arith, List, Bool, ℤ, ◌||◌, ◌+◌, to_z, of_z}
-use Rattle.std.proofs.lemmas.Int.{to_z-of_z}
+use Rattle.std.proofs.Common.{◌≡◌, ◌∙◌, ◌+◌, ℕ, ℤ, Bool, List, length, ap, sym, refl, arith}
 use Rattle.std.proofs.lemmas.List.{length-map}
-use Rattle.std.specs.Int.{w128}
-use Rattle.orc_values.specs.declared.value.Value.{Value}
-use Rattle.orc_values.specs.declared.column_values.ColumnValues.{ColumnValues}
+use Rattle.orc_values.specs.declared.value.Value.TheVariants as value
 use Rattle.orc_values.specs.declared.column_values.ColumnValues.TheVariants as list
-use Rattle.orc_values.specs.Column.{column_of, present_of, is_present, entries_in}
-use Rattle.batch_masks.specs.Kept.{kept, both}
-use Rattle.batch_masks.specs.Totals.{numbers_in, plus_all, has_some}
-use Rattle.batch_masks.proofs.Numbers.{numbers-ints, numbers-bools, numbers-texts, has_some-kept, with_none, SumOfFew-fits}
-use Rattle.batch_masks.proofs.Masks.{both-length}
+use Rattle.orc_values.specs.Column.{present_of, is_present, entries_in}
+use Rattle.batch_masks.specs.Kept.{kept}
+use Rattle.batch_masks.specs.Totals.{numbers_in, with_numbers}
+use Rattle.batch_masks.proofs.Numbers.{numbers-ints, numbers-none, with_none}
+use Rattle.batch_masks.proofs.Dense.{few_more, values_most, known_rows}
 use Rattle.batch_masks.proofs.total.with_kept.Goals as goal
-
-as_list : (mask : List Bool) (column : List Value) (typed known : ColumnValues) → typed ≡ known → column_of (present_of column) typed ≡ column → kept mask column ≡ kept mask (column_of (present_of column) known)
-as_list mask column typed known is same = ap (kept mask) (sym same ∙ ap (column_of (present_of column)) is)
 
 pub returns-in-Bools-clause-total : goal.returns-in-Bools-clause-total
 returns-in-Bools-clause-total c =
-    with_none c.args.total _ (ap numbers_in (as_list c.args.mask.now c.args.column.now c.values.result.now (list.Bools c.in-Bools.field-0) c.in-Bools.is c.values.ensures.values)
-    ∙ numbers-bools c.args.mask.now (present_of c.args.column.now) c.in-Bools.field-0.items)
+    let rows = known_rows c.args.column.now c.values.result.now (list.Bools c.in-Bools.field-0) c.in-Bools.is c.values.ensures.values in
+    with_none c.args.total _ (ap (λ l. numbers_in (kept c.args.mask.now l)) (sym rows)
+    ∙ numbers-none (λ (b : Bool). value.Bool b) (λ x values. refl) c.args.mask.now (present_of c.args.column.now) c.in-Bools.field-0.items)
 
 pub returns-in-Texts-clause-total : goal.returns-in-Texts-clause-total
 returns-in-Texts-clause-total c =
-    with_none c.args.total _ (ap numbers_in (as_list c.args.mask.now c.args.column.now c.values.result.now (list.Texts c.in-Texts.field-0) c.in-Texts.is c.values.ensures.values)
-    ∙ numbers-texts c.args.mask.now (present_of c.args.column.now) c.in-Texts.field-0)
+    let rows = known_rows c.args.column.now c.values.result.now (list.Texts c.in-Texts.field-0) c.in-Texts.is c.values.ensures.values in
+    with_none c.args.total _ (ap (λ l. numbers_in (kept c.args.mask.now l)) (sym rows)
+    ∙ numbers-none (λ (t : List ℕ). value.Text t) (λ x values. refl) c.args.mask.now (present_of c.args.column.now) c.in-Texts.field-0)
+
+pub with_numbers_kept-requires-clause-few : goal.with_numbers_kept-requires-clause-few
+with_numbers_kept-requires-clause-few c =
+    let same : entries_in c.values.result.now ≡ length c.in-Ints.numbers.items = ap entries_in c.in-Ints.is in
+    omega (arith, c.requires.few, values_most c.args.column.now c.values.result.now c.values.ensures.count, same, ap (λ (l : List ℤ). length l) c.deref.ensures.value)
 
 pub returns-in-Ints-clause-total : goal.returns-in-Ints-clause-total
 returns-in-Ints-clause-total c =
-    let entries = c.in-Ints.entries.items in
-    let flags = present_of c.args.column.now in
-    let len : length flags ≡ length entries = length-map c.args.column.now is_present ∙ sym c.values.ensures.rows ∙ ap (λ (typed : ColumnValues). entries_in typed) c.in-Ints.is in
-    let rows : length c.args.mask.now ≡ length entries = c.requires.rows ∙ sym c.values.ensures.rows ∙ ap (λ (typed : ColumnValues). entries_in typed) c.in-Ints.is in
-    let mask = c.narrow_present.ensures ∙ ap (both c.args.mask.now) c.present.ensures in
-    let numbers = ap numbers_in (as_list c.args.mask.now c.args.column.now c.values.result.now (list.Ints c.in-Ints.entries) c.in-Ints.is c.values.ensures.values) ∙ numbers-ints c.args.mask.now flags entries rows len in
-    let kept_is = ap (λ (l : List Bool). kept l entries) mask ∙ sym numbers in
-    let few = SumOfFew-fits c.args.given c.args.total.sum c.requires.bound (omega (arith, c.requires.few)) in
-    let more = SumOfFew-fits (c.args.given + length c.deref.result.now) c.sum_kept.result c.sum_kept.ensures.bound (omega (arith, c.requires.few, rows, c.requires.rows, c.deref.ensures.len)) in
-    let sum = to_z-of_z w128 c.sum_kept.result more ∙ c.sum_kept.ensures.sum ∙ ap (λ (s : ℤ). plus_all s (kept c.narrow_present.new.mask c.deref.result.now)) (to_z-of_z w128 c.args.total.sum few)
-    ∙ ap (λ (l : List ℤ). plus_all c.args.total.sum (kept c.narrow_present.new.mask l)) c.deref.ensures.value ∙ ap (plus_all c.args.total.sum) kept_is in
-    let some = c.any_set.ensures ∙ has_some-kept c.narrow_present.new.mask entries (ap (λ (l : List Bool). length l) mask ∙ both-length c.args.mask.now flags (rows ∙ sym len) ∙ rows) ∙ ap has_some kept_is in
-    ap (λ (b : Bool). record { some = b; sum = to_z w128 (of_z w128 c.sum_kept.result) }) (ap (λ (b : Bool). c.args.total.some || b) some)
-    ∙ ap (λ (s : ℤ). record { some = c.args.total.some || has_some (numbers_in (kept c.args.mask.now c.args.column.now)); sum = s }) sum
+    let mask = c.args.mask.now in
+    let column = c.args.column.now in
+    let flags : List Bool = present_of column in
+    let numbers : List ℤ = c.in-Ints.numbers.items in
+    let same : entries_in c.values.result.now ≡ length numbers = ap entries_in c.in-Ints.is in
+    let rows = known_rows column c.values.result.now (list.Ints c.in-Ints.numbers) c.in-Ints.is c.values.ensures.values in
+    let len : length mask ≡ length flags = c.requires.rows ∙ sym (length-map column is_present) in
+    let all = ap (λ l. numbers_in (kept mask l)) (sym rows) ∙ numbers-ints mask flags numbers len (sym same ∙ c.values.ensures.count) in
+    c.with_numbers_kept.ensures.total
+    ∙ ap (λ (l : List Bool). with_numbers c.args.total (kept (kept l mask) c.deref.result.now)) c.present.ensures
+    ∙ ap (λ (l : List ℤ). with_numbers c.args.total (kept (kept flags mask) l)) c.deref.ensures.value
+    ∙ ap (with_numbers c.args.total) (sym all)
+
+pub returns-in-Ints-clause-bound : goal.returns-in-Ints-clause-bound
+returns-in-Ints-clause-bound c =
+    let same : entries_in c.values.result.now ≡ length c.in-Ints.numbers.items = ap entries_in c.in-Ints.is in
+    let most = values_most c.args.column.now c.values.result.now c.values.ensures.count in
+    few_more (c.args.given + length c.deref.result.now) (c.args.given + length c.args.column.now) c.with_numbers_kept.result.sum
+    c.with_numbers_kept.ensures.bound (omega (arith, most, same, ap (λ (l : List ℤ). length l) c.deref.ensures.value))

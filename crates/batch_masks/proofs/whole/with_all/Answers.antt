@@ -1,46 +1,38 @@
-use Rattle.std.proofs.Common.{◌∙◌, ◌+◌, ◌||◌, not, ℤ, Bool, length, ap, sym, subst, arith, to_z, of_z}
-use Rattle.std.specs.Int.{w128}
-use Rattle.std.proofs.lemmas.Int.{to_z-of_z}
-use Rattle.batch_masks.specs.Totals.{numbers_in, plus_all, has_some, SumOfFew}
-use Rattle.batch_masks.proofs.Numbers.{with_none, SumOfFew-fits}
-use Rattle.orc_values.specs.declared.dense_values.DenseValues.TheVariants as lent
-use Rattle.orc_values.specs.Dense.{IsDense}
-use Rattle.batch_masks.proofs.Dense.{some_is, few_more, dense_most, dense_numbers, dense_truths, dense_texts}
+use Rattle.std.proofs.Common.{◌≡◌, ◌∙◌, ◌+◌, ℤ, List, length, ap, sym, arith}
+use Rattle.orc_values.specs.declared.column_values.ColumnValues.{ColumnValues}
+use Rattle.orc_values.specs.declared.column_values.ColumnValues.TheVariants as list
+use Rattle.orc_values.specs.Column.{entries_in}
+use Rattle.batch_masks.specs.Totals.{numbers_in, with_numbers}
+use Rattle.batch_masks.proofs.Numbers.{with_none}
+use Rattle.batch_masks.proofs.Dense.{few_more, values_most, known_rows, column_numbers, column_truths, column_texts}
 use Rattle.batch_masks.proofs.whole.with_all.Goals as goal
 
-pub sum_all-requires-clause-few : goal.sum_all-requires-clause-few
-sum_all-requires-clause-few c =
-    let dense = subst (IsDense c.args.column.now) c.in-Ints.is c.in_ok-numbers.ensures.dense in
-    omega (arith, c.requires.few, dense_most c.args.column.now (lent.Ints c.in-Ints.numbers) dense)
+pub with_each-requires-clause-few : goal.with_each-requires-clause-few
+with_each-requires-clause-few c =
+    let same : entries_in c.values.result.now ≡ length c.in-Ints.numbers.items = ap entries_in c.in-Ints.is in
+    omega (arith, c.requires.few, values_most c.args.column.now c.values.result.now c.values.ensures.count, same, ap (λ (l : List ℤ). length l) c.deref.ensures.value)
 
 pub returns-in-Ints-clause-total : goal.returns-in-Ints-clause-total
 returns-in-Ints-clause-total c =
     let column = c.args.column.now in
-    let numbers = c.in-Ints.numbers.now in
-    let dense = subst (IsDense column) c.in-Ints.is c.in_ok-numbers.ensures.dense in
-    let all = dense_numbers column c.in-Ints.numbers dense in
-    let own = SumOfFew-fits c.args.given c.args.total.sum c.requires.bound (omega (arith, c.requires.few)) in
-    let sum = to_z-of_z w128 c.sum_all.result c.sum_all.ensures.fits ∙ c.sum_all.ensures.sum
-    ∙ ap (λ (s : ℤ). plus_all s numbers) (to_z-of_z w128 c.args.total.sum own) ∙ ap (plus_all c.args.total.sum) (sym all) in
-    let some = ap not c.is_empty.ensures ∙ some_is numbers ∙ ap has_some (sym all) in
-    ap (λ (b : Bool). record { some = b; sum = to_z w128 (of_z w128 c.sum_all.result) }) (ap (λ (b : Bool). c.args.total.some || b) some)
-    ∙ ap (λ (s : ℤ). record { some = c.args.total.some || has_some (numbers_in column); sum = s }) sum
+    let same : entries_in c.values.result.now ≡ length c.in-Ints.numbers.items = ap entries_in c.in-Ints.is in
+    let rows = known_rows column c.values.result.now (list.Ints c.in-Ints.numbers) c.in-Ints.is c.values.ensures.values in
+    let all = column_numbers column c.in-Ints.numbers (sym same ∙ c.values.ensures.count) rows in
+    c.with_each.ensures.total ∙ ap (with_numbers c.args.total) (c.deref.ensures.value ∙ sym all)
 
 pub returns-in-Ints-clause-bound : goal.returns-in-Ints-clause-bound
 returns-in-Ints-clause-bound c =
-    let dense = subst (IsDense c.args.column.now) c.in-Ints.is c.in_ok-numbers.ensures.dense in
-    let most = dense_most c.args.column.now (lent.Ints c.in-Ints.numbers) dense in
-    let is = to_z-of_z w128 c.sum_all.result c.sum_all.ensures.fits in
-    subst (SumOfFew (c.args.given + length c.args.column.now)) (sym is)
-    (few_more (c.args.given + length c.in-Ints.numbers.now) (c.args.given + length c.args.column.now) c.sum_all.result
-    c.sum_all.ensures.bound (omega (arith, most)))
+    let same : entries_in c.values.result.now ≡ length c.in-Ints.numbers.items = ap entries_in c.in-Ints.is in
+    let most = values_most c.args.column.now c.values.result.now c.values.ensures.count in
+    few_more (c.args.given + length c.deref.result.now) (c.args.given + length c.args.column.now) c.with_each.result.sum
+    c.with_each.ensures.bound (omega (arith, most, same, ap (λ (l : List ℤ). length l) c.deref.ensures.value))
 
 pub returns-in-Bools-clause-total : goal.returns-in-Bools-clause-total
 returns-in-Bools-clause-total c =
-    let dense = subst (IsDense c.args.column.now) c.in-Bools.is c.in_ok-numbers.ensures.dense in
-    with_none c.args.total (numbers_in c.args.column.now) (dense_truths c.args.column.now c.in-Bools.field-0 dense)
+    let rows = known_rows c.args.column.now c.values.result.now (list.Bools c.in-Bools.field-0) c.in-Bools.is c.values.ensures.values in
+    with_none c.args.total (numbers_in c.args.column.now) (column_truths c.args.column.now c.in-Bools.field-0 rows)
 
 pub returns-in-Texts-clause-total : goal.returns-in-Texts-clause-total
 returns-in-Texts-clause-total c =
-    let dense = subst (IsDense c.args.column.now) c.in-Texts.is c.in_ok-numbers.ensures.dense in
-    with_none c.args.total (numbers_in c.args.column.now) (dense_texts c.args.column.now c.in-Texts.field-0 dense)
+    let rows = known_rows c.args.column.now c.values.result.now (list.Texts c.in-Texts.field-0) c.in-Texts.is c.values.ensures.values in
+    with_none c.args.total (numbers_in c.args.column.now) (column_texts c.args.column.now c.in-Texts.field-0 rows)

@@ -1,7 +1,23 @@
-use Rattle.std.proofs.Common.{◌∙◌, arith}
+use Rattle.std.proofs.Common.{◌≡◌, ◌∙◌, ◌+◌, ◌<◌, Bool, List, false, get_or, if◌then◌else◌, length, take, ap, arith}
+use Rattle.std.proofs.lemmas.List.{length-map, length-take}
+use Rattle.orc_values.specs.Column.{is_present, present_of}
+use Rattle.orc_values.specs.Woven.{present_count}
+use Rattle.orc_values.specs.WovenLaws.{count_more, present_count-le}
 use Rattle.fold_rows.proofs.Rows.{once_more}
 use Rattle.fold_rows.proofs.kept.count_kept.Goals as goal
 
 pub loop-row-preserved : goal.loop-row-preserved
 loop-row-preserved c =
-    c.in_ok-now.ensures ∙ once_more c.args.counts c.loop-row.now c.args.mask.now c.args.column.now c.loop-row.row c.requires (omega (arith, c.requires, c.loop-row-test.true)) c.loop-row.invariant
+    let l = c.loop-row in
+    let column = c.args.column.now in
+    let flags : List Bool = present_of column in
+    let h : l.row < length flags = omega (arith, c.requires, c.loop-row-test.true, length-map column is_present) in
+    let more = count_more flags l.row h in
+    let lent : c.from-before.result ≡ (if get_or c.present-present.result.now l.row false then 1 else 0) = grind (arith, c.from-before.ensures) in
+    let one : c.from-before.result ≡ (if get_or flags l.row false then 1 else 0) = lent ∙ ap (λ (x : List Bool). if get_or x l.row false then 1 else 0) c.present-present.ensures in
+    let counted : l.before + c.from-before.result ≡ present_count (take (l.row + 1) flags) = omega (arith, more, one, l.invariant.counted) in
+    record {
+      few = omega (arith, counted, present_count-le (take (l.row + 1) flags), length-take (l.row + 1) flags);
+      counted = counted;
+      counts = c.in_ok-now.ensures ∙ once_more c.args.counts l.now c.args.mask.now column l.row c.requires (omega (arith, c.requires, c.loop-row-test.true)) l.invariant.counts;
+    }

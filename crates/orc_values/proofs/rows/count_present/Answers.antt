@@ -1,5 +1,5 @@
 use Rattle.std.proofs.Common.{rules, arith, ◌<◌, length}
-use Rattle.orc_values.proofs.Spreads.{count_more}
+use Rattle.orc_values.specs.WovenLaws.{count_more}
 use Rattle.orc_values.proofs.rows.count_present.Goals as goal
 
 pub loop-flag-preserved : goal.loop-flag-preserved

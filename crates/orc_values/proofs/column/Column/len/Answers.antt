@@ -1,9 +1,9 @@
 use Rattle.std.proofs.Common.{rules}
-use Rattle.orc_values.proofs.Aligned.{column-length}
+use Rattle.orc_values.specs.ColumnLaws.{length-column_of}
 use Rattle.orc_values.proofs.column.Column.len.Goals as goal
 
 pub returns : goal.returns
 returns c =
     let s = c.self.inside in
-    let seen = column-length s.present.items s.values c.self.invariant.0 in
+    let seen = length-column_of s.present.items s.values in
     rw (← c.self.view_is) (rw seen (search rules))
