@@ -1,5 +1,5 @@
 -- How far values are from one another, in sums that wrap.
-use Rattle.std.proofs.Common.{◌≡◌, ℕ, ◌+◌, ◌-◌, ◌%◌, ◌^◌, ◌<◌, ◌≤◌, false, ltb, List, [], ◌∷◌, ◌++◌, length, take, set, get_or, map, ℤ, pos, neg_ℤ, ◌+ℤ◌, ◌-ℤ◌, refl, sym, ap, subst, ◌∙◌, arith}
+use Rattle.std.proofs.Common.{◌≡◌, ℕ, ◌+◌, ◌-◌, ◌%◌, ◌^◌, ◌<◌, ◌≤◌, false, ltb, List, [], ◌∷◌, ◌++◌, length, take, set, get_or, map, ℤ, pos, neg_ℤ, ◌+ℤ◌, ◌-ℤ◌, refl, sym, ap, ◌∙◌, arith}
 use Rattle.std.specs.Int.{w64, cast_signed, int_wrap}
 use Rattle.std.proofs.lemmas.Int.{int_wrap-add_right, int_wrap-sub_right, wrapping_add-bits, wrapping_sub-bits, to_z_pos, ints}
 use Rattle.std.proofs.lemmas.Bool.{le-ltb}

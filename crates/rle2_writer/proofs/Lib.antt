@@ -1,3 +1,5 @@
+pub mod AllPatches
 pub mod Differences
 pub mod Forms
 pub mod PackedBits
+pub mod PatchedRun

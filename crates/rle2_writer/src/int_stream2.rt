@@ -8,6 +8,7 @@ ghost use Rattle.rle_writer.specs.Written.{Adds, AddsRun};
 
 use crate::choice::{MOST, starts_ramp, uneven_len};
 use crate::direct::{put_direct, put_repeat};
+use crate::patched::put_shorter;
 use crate::sizes::are_told_by_steps;
 use crate::steps::{put_ramp, put_steps};
 use outside::NoMemory;
@@ -48,7 +49,7 @@ fn put_run(out: &mut Vec<u8>, signed: bool, values: &[i64]) -> Result<usize, NoM
     Ok(len)
 }
 
-/// Adds a run of any values, in the shorter of its two forms.
+/// Adds a run of any values, in the shortest of its forms.
 fn put_uneven(out: &mut Vec<u8>, signed: bool, values: &[i64]) -> Result<(), NoMemory>
     requires some { 0 < length values.now }
     requires most { length values.now ≤ 512 }
@@ -56,6 +57,9 @@ fn put_uneven(out: &mut Vec<u8>, signed: bool, values: &[i64]) -> Result<(), NoM
 {
     if values.len() > 2 && are_told_by_steps(signed, values) {
         return put_steps(out, signed, values);
+    }
+    if put_shorter(out, signed, values)? {
+        return Ok(());
     }
     put_direct(out, signed, values)
 }

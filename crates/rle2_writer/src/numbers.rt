@@ -1,5 +1,5 @@
 //! The numbers that stand for values, side by side.
-ghost use Rattle.std.specs.Prelude.{◌≡◌, ◌≤◌, ℕ, length, map, slice_index};
+ghost use Rattle.std.specs.Prelude.{◌≡◌, ◌^◌, ◌<◌, ◌≤◌, ℕ, length, map, slice_index};
 ghost use Rattle.orc_integers.specs.Integers.{integer};
 
 use rle_writer::number_of;
@@ -13,6 +13,11 @@ pub(crate) fn write_numbers(signed: bool, values: &[i64], into: &mut [u64])
         into[i] = number_of(signed, value);
     }
 }
+
+/// Does nothing. That the numbers of a slice fit 64 bits is known where it is lent.
+pub(crate) fn numbers_fit(numbers: &[u64])
+    ensures { (k : ℕ) → slice_index numbers.now k < 2 ^ 64 }
+{}
 
 /// The greatest of these numbers, or 0.
 pub(crate) fn greatest(numbers: &[u64]) -> u64

@@ -36,7 +36,7 @@ pub(crate) fn are_told_by_steps(signed: bool, values: &[i64]) -> bool
 }
 
 /// The bytes of a direct run.
-fn direct_bytes(signed: bool, values: &[i64]) -> usize
+pub(crate) fn direct_bytes(signed: bool, values: &[i64]) -> usize
     requires { length values.now ≤ 512 }
     ensures { result ≤ 5000 }
 {
@@ -62,7 +62,7 @@ fn steps_bytes(signed: bool, values: &[i64]) -> usize
 }
 
 /// The bytes of so many numbers of a width.
-fn packed_bytes(width: usize, len: usize) -> usize
+pub(crate) fn packed_bytes(width: usize, len: usize) -> usize
     requires width { width ≤ 64 }
     requires len { len ≤ 512 }
     ensures { result ≤ 4200 }

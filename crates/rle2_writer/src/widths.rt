@@ -1,6 +1,6 @@
 //! The widths of packed numbers, in bits.
 ghost use Rattle.std.specs.Prelude.{◌≡◌, ◌*◌, ◌^◌, ◌<◌, ◌≤◌};
-ghost use Rattle.orc_rle2.specs.Widths.{width_of};
+ghost use Rattle.orc_rle2.specs.Widths.{width_of, least_width};
 
 /// The width that a code means.
 ///
@@ -9,6 +9,7 @@ pub(crate) fn width_of(code: u32) -> u32
     requires { code < 32 }
     ensures value { result ≡ width_of code }
     ensures most { result ≤ 64 }
+    ensures narrow { code < 31 → result ≤ 56 }
 {
     match code {
         0..=23 => code + 1,
@@ -19,6 +20,27 @@ pub(crate) fn width_of(code: u32) -> u32
         28 => 40,
         29 => 48,
         30 => 56,
+        _ => 64,
+    }
+}
+
+/// The least width that is at least so many bits.
+pub(crate) fn least_width(bits: u32) -> u32
+    requires some { 0 < bits }
+    requires most { bits ≤ 64 }
+    ensures value { result ≡ least_width bits }
+    ensures holds { bits ≤ result }
+    ensures most { result ≤ 64 }
+{
+    match bits {
+        0..=24 => bits,
+        25..=26 => 26,
+        27..=28 => 28,
+        29..=30 => 30,
+        31..=32 => 32,
+        33..=40 => 40,
+        41..=48 => 48,
+        49..=56 => 56,
         _ => 64,
     }
 }

@@ -1,4 +1,4 @@
-use Rattle.std.proofs.Common.{ℕ, List, ◌++◌, length, ap, subst, arith, ◌∙◌}
+use Rattle.std.proofs.Common.{ℕ, List, ◌++◌, ap, subst, arith, ◌∙◌}
 use Rattle.rle_writer.specs.Written.{Adds}
 use Rattle.rle2_writer.specs.Packs.{Packs}
 use Rattle.rle2_writer.proofs.Forms.{OnOk-then, steps_run, behind_first}

@@ -1,0 +1,4 @@
+use Rattle.rle2_writer.proofs.patching.counts_above.Given as goal
+
+abbrev pub invariant-loop-value : goal.invariant-loop-value
+invariant-loop-value l = Unit {0}
