@@ -7,7 +7,7 @@ use rle_writer::{write_bits, write_bytes, write_integers1};
 use rle2_writer::write_integers2;
 use std::alloc::Global;
 
-/// Integers, and the streams that are wanted: version 1 and version 2, of which the shortest is taken that is known.
+/// Integers, and the streams that are wanted: version 1 and version 2, in the shortest of their forms.
 struct Row {
     values: &'static [i64],
     signed: bool,
@@ -15,7 +15,7 @@ struct Row {
     two: &'static [u8],
 }
 
-const ROWS: [Row; 8] = [
+const ROWS: [Row; 11] = [
     Row {
         values: &[7; 100],
         signed: false,
@@ -33,6 +33,24 @@ const ROWS: [Row; 8] = [
         signed: false,
         one: b"\xFB\x02\x03\x06\x07\x0B",
         two: b"\x46\x04\x23\x67\xB0",
+    },
+    Row {
+        values: &[2, 3, 5, 7, 11, 13, 17, 19, 23, 29],
+        signed: false,
+        one: b"\xFF\x02\x00\x02\x03\xFA\x0B\x0D\x11\x13\x17\x1D",
+        two: b"\xC4\x09\x02\x02\x4A\x28\xA6",
+    },
+    Row {
+        values: &[100, 90, 89, 70, 50, 49, 30, 10],
+        signed: true,
+        one: b"\xF8\xC8\x01\xB4\x01\xB2\x01\x8C\x01\x64\x62\x3C\x14",
+        two: b"\xC8\x07\xC8\x01\x13\x0C\xE8\x19\xD0",
+    },
+    Row {
+        values: &[5, 1, 7, 3, 1000000, 2, 6, 4, 1, 5, 7, 2],
+        signed: false,
+        one: b"\xF4\x05\x01\x07\x03\xC0\x84\x3D\x02\x06\x04\x01\x05\x07\x02",
+        two: b"\x86\x0B\x0F\xE1\x01\x40\x62\xF1\x53\x04\x61\x04\xF4\x23",
     },
     Row {
         values: &[23713, 43806, 57005, 48879],
