@@ -12,7 +12,7 @@ struct Row {
     fault: Option<RunFault>,
 }
 
-const ROWS: [Row; 8] = [
+const ROWS: [Row; 12] = [
     Row {
         bytes: b"\x61\x00\x07",
         signed: false,
@@ -35,6 +35,30 @@ const ROWS: [Row; 8] = [
         bytes: b"\xFB\x02\x03\x06\x07\x0B",
         signed: true,
         values: &[1, -2, 3, -4, -6],
+        fault: None,
+    },
+    Row {
+        bytes: b"\xF7\x00\x01\x02\x03\x04\x05\x06\x7E\x7F",
+        signed: true,
+        values: &[0, -1, 1, -2, 2, -3, 3, 63, -64],
+        fault: None,
+    },
+    Row {
+        bytes: b"\xF7\x00\x01\x02\x03\x04\x05\x06\x7E\x7F",
+        signed: false,
+        values: &[0, 1, 2, 3, 4, 5, 6, 126, 127],
+        fault: None,
+    },
+    Row {
+        bytes: b"\xF7\x80\x01\x81\x01\xFF\x01\x80\x02\xAC\x02\xFF\x3F\x80\x40\xFF\x7F\x80\x01",
+        signed: true,
+        values: &[64, -65, -128, 128, 150, -4096, 4096, -8192, 64],
+        fault: None,
+    },
+    Row {
+        bytes: b"\xF7\x80\x01\x81\x01\xFF\x01\x80\x02\xAC\x02\xFF\x3F\x80\x40\xFF\x7F\x80\x01",
+        signed: false,
+        values: &[128, 129, 255, 256, 300, 8191, 8192, 16383, 128],
         fault: None,
     },
     Row {
