@@ -89,11 +89,11 @@ impl<'a, W: World, S: Store<W>> Scanner<W> for CacheScanner<'a, W, S> {
 
     ghost fault_count = { λ r. S.fault_count r.store.now };
 
-    ghost same = { λ first last. IsSameScanner S.reads first last };
+    ghost same = { λ first last. IsSameScanner W.files S.reads first last };
 
-    ghost same_as_itself = { λ r. same_scanner S.reads r };
+    ghost same_as_itself = { λ r. same_scanner W.files S.reads r };
 
-    ghost same_on = { λ first between last p q. same_on S.reads first between last p q };
+    ghost same_on = { λ first between last p q. same_on W.files S.reads first between last p q };
 
     fn scan(&mut self, alloc: Global, plan: &Plan, fragment: u32) -> Result<Outcome, NoMemory> {
         scan_with(

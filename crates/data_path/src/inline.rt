@@ -10,9 +10,10 @@ ghost use Rattle.io_elevator.specs.Scratch.{IsFreshFor};
 ghost use Rattle.fragment_plan.specs.Plan.{plan_of};
 ghost use Rattle.command_line.specs.Options.{AreInRange};
 ghost use Rattle.plan_run.specs.Run.{HasRun};
-ghost use Rattle.data_path.specs.Geometries.{geometry_of};
+ghost use Rattle.data_path.specs.Geometries.{IsThrough, geometry_of};
 ghost use Rattle.data_path.specs.Headline.{Answers, CompletesAlone, Prints};
 ghost use Rattle.data_path.specs.RunText.{AreTotals};
+ghost use Rattle.held_ranges.specs.Counts.{AreStepsCounted};
 ghost use Rattle.scan_inline.specs.Counts.{AreCounted};
 
 use crate::cache_scanner::CacheScanner;
@@ -73,6 +74,7 @@ fn run_through<W: World, S: Store<W>>(
     ensures fresh { IsFreshFor (sizes_of (pool_of cache.now)) scratch.new }
     ensures run { IfOk result (HasRun W.files (S.fault_count last.old) (S.fault_count last.new) plan.now) }
     ensures counted { AreCounted (S.reads last.old) (S.reads last.new) totals.old totals.new }
+    ensures steps { AreStepsCounted W.files (pool_of cache.now) seat.old seat.new totals.old totals.new }
 {
     let mut scanner = CacheScanner::new(cache, seat, evictor, last, scratch, totals);
     run_plan(alloc, plan, &mut scanner)
@@ -89,6 +91,7 @@ fn run_over<W: World, S: Store<W>>(
     requires in_range { AreInRange options.now }
     ensures run { IfOk result (λ r. HasRun W.files (S.fault_count last.old) (S.fault_count last.new) plan.now r.0) }
     ensures counted { IfOk result (λ r. AreTotals (S.reads last.old) (S.reads last.new) r.1) }
+    ensures through { IfOk result (λ r. IsThrough W W.files options.now r.1) }
 {
     let (cache, mut seat) = match cache_for(alloc, options) {
         Ok(made) => made,
@@ -126,10 +129,10 @@ fn run_over<W: World, S: Store<W>>(
 /// before the plan runs, and lets go; those of threads aren't used yet.
 ///
 /// Bytes that are no plan write the line of their first fault: `BadPlan`, and the store is as it was. Else the results of all
-/// fragments are written, in plan order, and then the line of the cache. Where the store tells its reads, that line's fills and bypasses
-/// are as many as it read, unless one stands at its last value. Where the world tells its files, what is written is what the fragments
-/// mean, but for at most as many scans with a read fault as the faults of `last` rose by. `Done` where no fragment failed, else
-/// `SomeFailed`.
+/// fragments are written, in plan order, and then the line of the cache. Its hits, fills and evictions are those of the steps of a seat
+/// of that cache; where the store tells its reads, its fills and bypasses are as many as it read; each unless a count stands at its last
+/// value. Where the world tells its files, what is written is what the fragments mean, but for at most as many scans with a read fault as
+/// the faults of `last` rose by. `Done` where no fragment failed, else `SomeFailed`.
 /// `WriteFault` only where the sink's faults rose, and a front of the text was written. After `NoMemory` nothing was written.
 /// It never answers `Usage` or `PlanFault`.
 pub fn alone<W: World, S: Store<W>, K: Sink>(
@@ -141,8 +144,8 @@ pub fn alone<W: World, S: Store<W>, K: Sink>(
 ) -> Status
     requires in_range { AreInRange options.now }
     ensures answers { Answers
-        (Prints W.files (S.fault_count last.old) (S.fault_count last.new) (S.reads last.old) (S.reads last.new)
-        (last.new ≡ last.old) plan.now)
+        (Prints W.files (IsThrough W W.files options.now) (S.fault_count last.old) (S.fault_count last.new)
+        (S.reads last.old) (S.reads last.new) (last.new ≡ last.old) plan.now)
         (Rose (K.fault_count out.old) (K.fault_count out.new)) ⊥ (K.content out.old) (K.content out.new) result }
     ensures complete { CompletesAlone W.files (Rose (S.fault_count last.old) (S.fault_count last.new))
         (Rose (K.fault_count out.old) (K.fault_count out.new)) plan.now (K.content out.old) (K.content out.new) result }

@@ -1,6 +1,7 @@
 //! The top call: reads words and plan, runs the plan, and writes its results.
 ghost use Rattle.std.specs.Prelude.{◌≡◌, IfOk, map};
 ghost use Rattle.outside.specs.Cause.{Rose};
+ghost use Rattle.data_path.specs.Geometries.{IsThrough};
 ghost use Rattle.data_path.specs.Headline.{Answers, Completes, CompletesGenerated, IsUnread, Writes};
 ghost use Rattle.data_path.specs.PlanBytes.{IsFault};
 ghost use Rattle.data_path.specs.Steps.{ChosenPlan, NotRead};
@@ -71,7 +72,7 @@ pub fn llapd<W: World, P: Source, S: Store<W> + Send + Drop, K: Sink, G: Gate + 
           store_reads = S.reads last.old;
           store_reads' = S.reads last.new;
         })
-        (plan.new ≡ plan.old) (last.new ≡ last.old))
+        (IsThrough W W.files) (plan.new ≡ plan.old) (last.new ≡ last.old))
         (Rose (K.fault_count out.old) (K.fault_count out.new))
         (IsUnread
         (record {
