@@ -115,10 +115,11 @@ fn are_got(
     true
 }
 
-/// Whether a new cache gets the rows, by so many reads of a store that fails at one of them; and the words of the arena, of the clock and
-/// of the touches of header 0 then.
+/// Whether a new cache of so many arenas gets the rows, by so many reads of a store that fails at one of them; and the words of the first
+/// arena, of the clock and of the touches of header 0 then.
 fn runs(
     alloc: Global,
+    arenas: u32,
     half_life: u64,
     len: u32,
     failing: u64,
@@ -133,7 +134,12 @@ fn runs(
         failing,
         faults: 0,
     };
-    let Ok((cache, mut seat)) = Cache::<RealWorld>::create(alloc, GEOMETRY, half_life, 1) else {
+    let geometry = Geometry {
+        min_block: 64,
+        arenas,
+        sets: 1,
+    };
+    let Ok((cache, mut seat)) = Cache::<RealWorld>::create(alloc, geometry, half_life, 1) else {
         return false;
     };
     let Ok(mut evictor) = Evictor::new(alloc, &cache) else {
@@ -165,15 +171,15 @@ fn what_was_used_least_goes(rt: HostRuntime) {
         (0, FILLED + 1),
         (1, FILLED + 1),
     ];
-    assert!(rt; runs(rt.alloc(), 0, 2_048, 0, &kept, 4, [u64::MAX, 6, 0]));
-    assert!(rt; runs(rt.alloc(), 1, 2_048, 0, &last, 5, [u64::MAX, 6, 0]));
+    assert!(rt; runs(rt.alloc(), 1, 0, 2_048, 0, &kept, 4, [u64::MAX, 6, 0]));
+    assert!(rt; runs(rt.alloc(), 1, 1, 2_048, 0, &last, 5, [u64::MAX, 6, 0]));
 }
 
 /// A range is touched once where it is filled and once at each hit.
 #[test]
 fn each_get_touches_once(rt: HostRuntime) {
     let rows = [(0, FILLED), (0, HIT), (0, HIT)];
-    assert!(rt; runs(rt.alloc(), 0, 64, 0, &rows, 1, [1, 3, 3]));
+    assert!(rt; runs(rt.alloc(), 1, 0, 64, 0, &rows, 1, [1, 3, 3]));
 }
 
 /// A ninth range takes the way and the block of the oldest of eight: with equal touches the last ones decide.
@@ -192,11 +198,29 @@ fn a_full_set_gives_a_way(rt: HostRuntime) {
         (1, HIT),
         (0, FILLED + 1),
     ];
-    assert!(rt; runs(rt.alloc(), 0, 64, 0, &rows, 10, [0xFF, 11, 0]));
+    assert!(rt; runs(rt.alloc(), 1, 0, 64, 0, &rows, 10, [0xFF, 11, 0]));
 }
 
 /// After a read that failed nothing but the clock has changed.
 #[test]
 fn a_failed_read_ticks_alone(rt: HostRuntime) {
-    assert!(rt; runs(rt.alloc(), 0, 64, 1, &[(0, FAILED)], 1, [0, 1, 0]));
+    assert!(rt; runs(rt.alloc(), 1, 0, 64, 1, &[(0, FAILED)], 1, [0, 1, 0]));
+}
+
+/// A fifth range of four that fill two arenas takes the block of the one victim, in the victim's arena: the first arena stays as it is.
+#[test]
+fn the_victims_arena_is_asked(rt: HostRuntime) {
+    let rows = [
+        (0, FILLED),
+        (1, FILLED),
+        (2, FILLED),
+        (3, FILLED),
+        (0, HIT),
+        (1, HIT),
+        (4, FILLED + 1),
+        (3, HIT),
+        (0, HIT),
+        (1, HIT),
+    ];
+    assert!(rt; runs(rt.alloc(), 2, 0, 2_048, 0, &rows, 5, [u64::MAX, 10, 1]));
 }
