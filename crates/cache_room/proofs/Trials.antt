@@ -1,6 +1,7 @@
 -- One header more was tried.
 use Rattle.std.proofs.Common.{◌≡◌, ◌≢◌, ℕ, zero, suc, ◌+◌, ◌-◌, ◌/◌, ◌^◌, ◌<◌, ◌≤◌, min, Bool, true, false, List, [], ◌∷◌, ◌++◌, length, refl, sym, ap, ◌∙◌, subst, inl, inr, arith}
 use Rattle.std.specs.Prelude.{Option, None, Some, Ok, Err, ◌⊎◌, replicate, slice_index, slice_index_or, slice_set}
+use Rattle.std.specs.Option.{option_or}
 use Rattle.std.proofs.lemmas.Bool.{cases_eq, cases_lt}
 use Rattle.std.proofs.lemmas.List.{append_assoc, append-nil, get_or-replicate, get_or-set_other, get_or-set_same, get_or_past, length-replicate}
 use Rattle.lrfu_policy.specs.declared.rank.Rank.{Rank}
@@ -36,9 +37,9 @@ use Rattle.cache_placement.specs.Free.{IsOrder}
 use Rattle.cache_placement.specs.Placements.{HasNoRoom, IsFilled, IsLost, IsPlacement}
 use Rattle.cache_room.specs.declared.wanted.Wanted.{Wanted}
 use Rattle.cache_room.specs.Quiet.{AreKnown, IsQuiet, consult_releases, consult_touches, quiet_consult, quiet_held, quiet_none, quiet_out, quiet_then}
-use Rattle.cache_room.specs.Rooms.{HasFree, HeadersTried, IfNoRoom, IsSetTried, IsWayFreed, MakesByTries, MakesRoom, MakesWhereFull, RoomLeft, WaysTried, counted, unless_full}
-use Rattle.cache_room.specs.Seeking.{AsksOwn, IsSought, SeeksRoom}
-use Rattle.cache_room.specs.SeekingLaws.{asks_then, consult_asks, held_asks, out_asks, seeks_only}
+use Rattle.cache_room.specs.Rooms.{HasFree, HeadersTried, IfNoRoom, IsSetTried, IsWayFreed, MakesByTries, MakesWhereFull, RoomLeft, WaysTried, counted, unless_full}
+use Rattle.cache_room.specs.Seeking.{AsksOwn, HasNoBlock, IsSought, last_shown}
+use Rattle.cache_room.specs.SeekingLaws.{asks_then, consult_asks, consult_shows, held_asks, held_shows, last_shown-append, out_asks, seeks_only, shown_loads}
 use Rattle.cache_room.specs.Touchings.{place_touchings}
 use Rattle.cache_room.specs.Tried.{IsTried, last_saw, releases}
 use Rattle.cache_room.specs.TriedLaws.{held_end, held_releases, out_end, out_released, out_releases, place_releases, releases-append, saw_away, saw_here, touch_front, tried_back, tried_front, tried_over}
@@ -174,12 +175,14 @@ module _ (files : Option Files) (g : Geometry) (id : ℕ) (wanted : Wanted) (sta
         quiet = quiet_then files g id wanted.key start v w c.ss ts c.quiet more;
         touched = λ h less. touch_front h c.ss ts (c.touched h less);
         count = omega (arith, sum, was, is);
-        asks = asks_then c.ss ts c.asks (held_asks header ts held.word t.2);
+        asks = asks_then g wanted.key.len c.ss ts c.asks c.vain (held_asks g wanted.key.len header ts held.word t.2);
+        vain = (let N : Option ℕ → Type 0 = λ o. HasNoBlock g wanted.key.len o in
+            subst N (sym (last_shown-append c.ss ts ∙ ap (λ o. option_or o (last_shown c.ss)) (held_shows header ts held.word t.2))) c.vain);
         ended = headers_ended g tried c.ss ts header c.ended (tried_over header c.ss ts (c.touched header below) (held_end header ts held.word t.2));
       }
 
   -- the buffer went, and the range was placed where its block was, or there is no room all the same
-  module _ (b : Block) (from until evicted' : ℕ) (ts us : List WordStep) (v u w : View) (c : HeadersTried files g id wanted.key start tried evicted v) (out : OutSteps header ts b) (made : AreMade files g id ts v u) (same_marks : SameMarks v u) (same_places : SamePlaces v u) (count : evicted' ≡ min (evicted + 1) (2 ^ 32 - 1)) (at : from ≡ b.place / 64) (one : until ≡ from + 1) (free : HasFree wanted) where
+  module _ (b : Block) (from until evicted' : ℕ) (ts us : List WordStep) (v u w : View) (c : HeadersTried files g id wanted.key start tried evicted v) (out : OutSteps header ts b) (made : AreMade files g id ts v u) (same_marks : SameMarks v u) (same_places : SamePlaces v u) (count : evicted' ≡ min (evicted + 1) (2 ^ 32 - 1)) (at : from ≡ b.place / 64) (one : until ≡ from + 1) (free : HasFree wanted) (order_is : IsOrder g wanted.key.len wanted.order) where
     before : IsQuiet files g id wanted.key start (c.ss ++ ts) u
     before = quiet_then files g id wanted.key start v u c.ss ts c.quiet (quiet_out files g id wanted.key header ts b v u out made same_marks same_places)
 
@@ -191,18 +194,22 @@ module _ (files : Option Files) (g : Geometry) (id : ℕ) (wanted : Wanted) (sta
         omega (arith, sum, was, is, count)
 
     -- the arena of the block is asked, and no other
-    own_asked : (placed : Placed) → IsPlacement files g id wanted.key wanted.order wanted.first wanted.states from until us u w placed → AsksOwn ((c.ss ++ ts) ++ us)
-    own_asked placed p =
-        let P : ℕ → Type 0 = λ n. (found : ℕ) × (rest : List WordStep) × (us ≡ Looked (Arena n) found ∷ rest) in
-        let asked = subst P at (p.asked (omega (arith, one)) free.0 free.1 free.2) in
-        let inside : (s : WordStep) (arena : ℕ) → Lists.Among s us → asked_by s ≡ Some arena → b.place / 64 ≡ arena = λ s arena there is.
+    one_asked : (placed : Placed) → IsPlacement files g id wanted.key wanted.order wanted.first wanted.states from until us u w placed → (s : WordStep) (arena : ℕ) → Lists.Among s us → asked_by s ≡ Some arena → from ≡ arena
+    one_asked placed p s arena there is =
         let bounds = p.inside s arena there is in
         let low = bounds.0 in
         let high = bounds.1 in
-        sym at ∙ omega (arith, low, high, one) in
-        subst AsksOwn (sym (append_assoc c.ss ts us)) (asks_then c.ss (ts ++ us) c.asks (out_asks header ts us b out p.only inside asked))
+        omega (arith, low, high, one)
 
-    by_tries : (placed : Placed) → IsPlacement files g id wanted.key wanted.order wanted.first wanted.states from until us u w placed → IsSought g ((c.ss ++ ts) ++ us)
+    own_asked : (placed : Placed) → IsPlacement files g id wanted.key wanted.order wanted.first wanted.states from until us u w placed → AsksOwn g wanted.key.len ((c.ss ++ ts) ++ us)
+    own_asked placed p =
+        let P : ℕ → Type 0 = λ n. (found : ℕ) × (rest : List WordStep) × (us ≡ Looked (Arena n) found ∷ rest) in
+        let A : List WordStep → Type 0 = λ l. AsksOwn g wanted.key.len l in
+        let asked = subst P at (p.asked (omega (arith, one)) free.0 free.1 free.2) in
+        let inside : (s : WordStep) (arena : ℕ) → Lists.Among s us → asked_by s ≡ Some arena → b.place / 64 ≡ arena = λ s arena there is. sym at ∙ one_asked placed p s arena there is in
+        subst A (sym (append_assoc c.ss ts us)) (asks_then g wanted.key.len c.ss (ts ++ us) c.asks c.vain (out_asks g wanted.key.len header ts us b out p.only inside asked))
+
+    by_tries : (placed : Placed) → IsPlacement files g id wanted.key wanted.order wanted.first wanted.states from until us u w placed → IsSought g wanted.key.len ((c.ss ++ ts) ++ us)
     by_tries placed p =
         let all : List WordStep = (c.ss ++ ts) ++ us in
         record { trying = all; end = []; parts = sym (append-nil all); asks = own_asked placed p; kept = refl; last = inl (λ s gone. absurd gone) }
@@ -215,6 +222,13 @@ module _ (files : Option Files) (g : Geometry) (id : ℕ) (wanted : Wanted) (sta
 
     no_grant : (words : List ℕ) → IsFilled (Bypass (NoRoom words)) ⊎ IsLost us (Bypass (NoRoom words)) → ⊥
     no_grant words h = elim h [ inl not ↦ not | inr lost ↦ (let e : Bypass (NoRoom words) ≡ Bypass (Raced lost.1) = lost.2 in let clash : ⊥ = cc in clash) ]
+
+    -- the arena that was asked last had no block
+    in_vain : (words : List ℕ) → IsPlacement files g id wanted.key wanted.order wanted.first wanted.states from until us u w (Bypass (NoRoom words)) → HasNoBlock g wanted.key.len (last_shown ((c.ss ++ ts) ++ us))
+    in_vain words p =
+        let shown = sym (shown_loads g from us p.only (one_asked (Bypass (NoRoom words)) p) (λ x f there. no_grant words (p.granted x f there))) ∙ p.tells.last from (omega arith) (omega (arith, one)) in
+        let N : Option ℕ → Type 0 = λ o. HasNoBlock g wanted.key.len o in
+        subst N (sym (last_shown-append (c.ss ++ ts) us ∙ ap (λ o. option_or o (last_shown (c.ss ++ ts))) shown)) (wanted.order, order_is, p.tells.none from (omega arith) (omega (arith, one)))
 
     -- there is no room all the same
     still_full : (words : List ℕ) → IsPlacement files g id wanted.key wanted.order wanted.first wanted.states from until us u w (Bypass (NoRoom words)) → HeadersTried files g id wanted.key start (slice_set tried header true) evicted' w
@@ -230,6 +244,7 @@ module _ (files : Option Files) (g : Geometry) (id : ℕ) (wanted : Wanted) (sta
           touched = λ h less. touch_front h (c.ss ++ ts) us (touch_front h c.ss ts (c.touched h less));
           count = omega (arith, sum, none, so_far);
           asks = own_asked (Bypass (NoRoom words)) p;
+          vain = in_vain words p;
           ended = λ h marked.
               tried_front h (c.ss ++ ts) us (headers_ended g tried c.ss ts header c.ended (tried_over header c.ss ts (c.touched header below) (out_end header ts b out)) h marked);
         }
@@ -251,7 +266,8 @@ module _ (files : Option Files) (g : Geometry) (id : ℕ) (key : Key) (start : V
         quiet = quiet_consult files g id key start known (headers_of g) p q h.0 v h.2 h.1;
         touched = consult_touches (headers_of g) p q h.0 h.2;
         count = omega (arith, is);
-        asks = consult_asks h.0 (consult_only (headers_of g) p q h.0 h.2);
+        asks = consult_asks g key.len h.0 (consult_only (headers_of g) p q h.0 h.2);
+        vain = (let N : Option ℕ → Type 0 = λ o. HasNoBlock g key.len o in subst N (sym (consult_shows h.0 (consult_only (headers_of g) p q h.0 h.2))) tt);
         ended = λ other marked. absurd (let e : true ≡ false = sym marked ∙ none other in let clash : ⊥ = cc in clash);
       }
 

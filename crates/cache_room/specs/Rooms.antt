@@ -19,7 +19,7 @@ use Rattle.cache_placement.specs.Free.{IsFirstFree, IsOrder, NoneFree}
 use Rattle.cache_placement.specs.Placements.{IsPlacement}
 use Rattle.cache_room.specs.declared.wanted.Wanted.{Wanted}
 use Rattle.cache_room.specs.Quiet.{IsQuiet}
-use Rattle.cache_room.specs.Seeking.{AsksOwn, IsSought, SeeksRoom}
+use Rattle.cache_room.specs.Seeking.{AsksOwn, HasNoBlock, IsSought, SeeksRoom, last_shown}
 use Rattle.cache_room.specs.Tried.{HasTouch, IsTried, last_saw, releases}
 
 -- ---- a way of a set
@@ -74,14 +74,15 @@ abbrev pub counted : List WordStep → ℕ
 counted ss = min (releases ss) (2 ^ 32 - 1)
 
 -- The headers that are marked were tried, after each header's touches were looked at. So many were released, and behind each the arena of
--- its block was asked, and no other arena.
+-- its block was asked, and no other arena; and each time it showed no free block when it was asked last.
 pub record HeadersTried (files : Option Files) (g : Geometry) (id : ℕ) (key : Key) (old : View) (tried : List Bool)
     (evicted : ℕ) (new : View) : Type 0 where
   pub ss : List WordStep
   pub quiet : IsQuiet files g id key old ss new
   pub touched : (header : ℕ) → header < headers_of g → HasTouch header ss
   pub count : evicted ≡ counted ss
-  pub asks : AsksOwn ss
+  pub asks : AsksOwn g key.len ss
+  pub vain : HasNoBlock g key.len (last_shown ss)
   pub ended : (header : ℕ) → slice_index_or tried header false ≡ true → IsTried header ss
 
 -- where the answer is that there is no room, that holds
@@ -116,12 +117,14 @@ pub record MakesRoom (files : Option Files) (g : Geometry) (id : ℕ) (wanted : 
   pub count : evicted ≡ counted ss
   pub tried : IfNoRoom placed ((from ≡ 0) × (until ≡ g.arenas) × ((header : ℕ) → header < headers_of g → IsTried header ss))
 
--- by which the arenas of the blocks that came free were asked, and no others before each header had been tried
+-- by which the arenas of the blocks that came free were asked, and no others before each header had been tried; and one header more was
+-- released only where the arena that was asked last showed no free block
 abbrev pub MakesByTries : Option Files → Geometry → ℕ → Wanted → View → View → ℕ → Placed → Type 0
 MakesByTries files g id wanted old new evicted placed =
-    (m : MakesRoom files g id wanted old new evicted placed) × IsSought g (m.ss ++ m.ts)
+    (m : MakesRoom files g id wanted old new evicted placed) × IsSought g wanted.key.len (m.ss ++ m.ts)
 
--- by which headers were released only where no arena had room
+-- by which the first header was released only where no arena had room, and each further one only where the arena of the block that came
+-- free before it had none
 abbrev pub MakesWhereFull : Option Files → Geometry → ℕ → Wanted → View → View → ℕ → Placed → Type 0
 MakesWhereFull files g id wanted old new evicted placed =
     (m : MakesRoom files g id wanted old new evicted placed) × SeeksRoom g wanted.key.len (m.ss ++ m.ts)

@@ -1,5 +1,7 @@
 -- Where room for a range is sought: which arenas are asked, and when headers are released for it. Source: this project's own.
 use Rattle.std.specs.Prelude.{◌≡◌, ℕ, ◌/◌, ◌<◌, List, [], ◌∷◌, ◌++◌, ◌⊎◌, Option, Some, None}
+use Rattle.std.specs.Option.{option_or}
+use Rattle.buddy_arena.specs.Buddy.{IsBuddyAnswer}
 use Rattle.pool_model.specs.declared.block.Block.{Block}
 use Rattle.pool_rule.specs.declared.geometry.Geometry.{Geometry}
 use Rattle.pool_rule.specs.declared.geometry.WordName.TheVariants.{Arena}
@@ -8,6 +10,7 @@ use Rattle.pool_rule.specs.declared.word_step.WordStep.TheVariants.{Looked, Look
 use Rattle.pool_rule.specs.declared.word_step.WordStep.TheVariants.{Filled, Published, Counted, Uncounted, EvictBegun, HeaderReleased}
 use Rattle.pool_rule.specs.declared.word_step.WordStep.TheVariants.{Updated}
 use Rattle.pool_rule.specs.Layout.{headers_of}
+use Rattle.pool_rule.specs.WordSteps.{found_by}
 use Rattle.cache_placement.specs.Asking.{AsksNone, asked_by}
 use Rattle.cache_placement.specs.Free.{IsOrder}
 use Rattle.cache_placement.specs.Placements.{HasNoRoom}
@@ -50,22 +53,50 @@ abbrev pub AreAskedNext : List WordStep → Type 0
 AreAskedNext [] = Unit {0}
 AreAskedNext (s ∷ ss) = ((b : Block) → freed_by s ≡ Some b → IsAskedNext b ss) × AreAskedNext ss
 
--- behind each header that is released the arena of its block is asked next, and no arena is asked elsewhere
-pub record AsksOwn (ss : List WordStep) : Type 0 where
+-- the word of the arena that a step asks, as the step found it
+abbrev pub found_if : Option ℕ → ℕ → Option ℕ
+found_if None found = None
+found_if (Some arena) found = Some found
+
+abbrev pub shown_by : WordStep → Option ℕ
+shown_by s = found_if (asked_by s) (found_by s)
+
+-- the word of the arena that was asked last, as it was then
+abbrev pub last_shown : List WordStep → Option ℕ
+last_shown [] = None
+last_shown (s ∷ ss) = option_or (last_shown ss) (shown_by s)
+
+-- if there is such a word, it shows no free block for so many bytes
+abbrev pub HasNoBlock : Geometry → ℕ → Option ℕ → Type 0
+HasNoBlock g len None = Unit {0}
+HasNoBlock g len (Some word) = (order : ℕ) × IsOrder g len order × IsBuddyAnswer 64 word order None
+
+-- A header is released only where the arena that was asked last showed no free block for so many bytes, or none was asked. Before these
+-- steps the word of that arena was `last`.
+abbrev pub AreInNeed : Geometry → ℕ → Option ℕ → List WordStep → Type 0
+AreInNeed g len last [] = Unit {0}
+AreInNeed g len last (s ∷ ss) =
+    ((b : Block) → freed_by s ≡ Some b → HasNoBlock g len last) × AreInNeed g len (option_or (shown_by s) last) ss
+
+-- Behind each header that is released the arena of its block is asked next, and no arena is asked elsewhere. Another header is released
+-- behind that only where this arena showed no free block for so many bytes when it was asked last.
+pub record AsksOwn (g : Geometry) (len : ℕ) (ss : List WordStep) : Type 0 where
   pub own : AreOwn None ss
   pub next : AreAskedNext ss
+  pub need : AreInNeed g len None ss
 
--- The arenas of the blocks that came free were asked, and no others, unless each header had been tried by then.
-pub record IsSought (g : Geometry) (ss : List WordStep) : Type 0 where
+-- The arenas of the blocks that came free were asked, and no others, unless each header had been tried by then; and one header more was
+-- released only where the arena that was asked last showed no free block for so many bytes.
+pub record IsSought (g : Geometry) (len : ℕ) (ss : List WordStep) : Type 0 where
   pub trying : List WordStep
   pub end : List WordStep
   pub parts : ss ≡ trying ++ end
-  pub asks : AsksOwn trying
+  pub asks : AsksOwn g len trying
   pub kept : releases end ≡ 0
   pub last : AsksNone end ⊎ ((header : ℕ) → header < headers_of g → IsTried header trying)
 
--- So many bytes were to have room by these steps. Headers were released only behind steps by whose last loads no arena had a free block
--- of the order.
+-- So many bytes were to have room by these steps. The first header was released only behind steps by whose last loads no arena had a free
+-- block of the order, and each further one only where the arena of the block that came free before it showed none.
 pub record SeeksRoom (g : Geometry) (len : ℕ) (ss : List WordStep) : Type 0 where
   pub asking : List WordStep
   pub more : List WordStep
@@ -73,4 +104,4 @@ pub record SeeksRoom (g : Geometry) (len : ℕ) (ss : List WordStep) : Type 0 wh
   pub kept : releases asking ≡ 0
   pub full : (releases more ≡ 0)
       ⊎ ((order : ℕ) × IsOrder g len order × (words : List ℕ) × HasNoRoom g order 0 g.arenas asking words)
-  pub sought : IsSought g more
+  pub sought : IsSought g len more

@@ -49,7 +49,7 @@ fn with_freed(wanted: Wanted, way: u32) -> Wanted
     }
 }
 
-/// Places a range in a way that was seen free: in the first arena that has a block, and if none has, by evictions.
+/// Places a range in a way that was seen free: in a block of an arena, and if none shows one, by evictions.
 fn place_in_free<W: World>(
     pool: &Pool<W>,
     seat: &mut PoolSeat<W>,
@@ -94,14 +94,15 @@ fn place_in_free<W: World>(
 
 /// Places a range in the cache and pins it, and evicts what has to go for it.
 ///
-/// Where no way of its set was seen free, one is freed, as `free_way` does. Then the arenas are asked in order for a free block, and if
-/// none has one, buffers are evicted until there is one, as `place_evicting` does. The header is opened with it, filled from `bytes` and
-/// published.
+/// Where no way of its set was seen free, one is freed, as `free_way` does. Then the arenas are asked for a free block. Only where none
+/// showed one are buffers evicted for it: behind each the arena of its block is asked, and one more goes only where that arena showed no
+/// free block when it was asked last. No other arena is asked before each header was tried. With a block that is granted the header is
+/// opened, filled from `bytes` and published.
 ///
 /// `SetFull` comes where each way of the set was tried in this call and none could be freed, with the last words that steps on their
-/// states found; `NoRoom` where each header was tried in this call and no arena has a free block, with the arenas' last words; `Raced`
-/// where the exchange that grants or opens came back with another word. What was evicted stays so, whatever the answer, and `evicted`
-/// counts it.
+/// states found; `NoRoom` where each header was tried in this call and no arena showed a free block behind that, with the words that the
+/// last loads of the arenas gave; `Raced` where the exchange that grants or opens came back with another word. What was evicted stays so,
+/// whatever the answer, and `evicted` counts it.
 ///
 /// `tried` has a flag for each header, of any value. The policy has as many headers as the pool, and the keys of the seat's pins are
 /// known. It takes no memory and waits for nobody.

@@ -42,7 +42,7 @@ pub(crate) fn unless_full(placed: Placed) -> Option<Placed>
 }
 
 /// Tries a header, and if its buffer goes, places the range in the arena where its block was. `None` comes where the buffer can't
-/// be had, or the arena has no free block all the same.
+/// be had, or the arena shows no free block all the same.
 fn place_for<W: World>(
     pool: &Pool<W>,
     seat: &mut PoolSeat<W>,
@@ -172,13 +172,15 @@ fn place_for_others<W: World>(
     None
 }
 
-/// Places a range where no arena had a free block for it, by evicting buffers until there is one.
+/// Places a range where no arena showed a free block for it, by evicting buffers.
 ///
 /// The policy is consulted. Its victims are tried in their order, and after them the headers that weren't tried, by ascending number.
-/// After each buffer that went the arena of its block is asked, and no other. If there is no block after the last one, all arenas are
-/// asked once more. Where a block was granted the answer is that of `cache_placement::place`.
+/// After each buffer that went the arena of its block is asked, and no other; and one more goes only where that arena showed no free
+/// block when it was asked last. Where each header was tried and no arena that was asked had a block, all arenas are asked once more.
+/// The answer is that of the last `cache_placement::place`.
 ///
-/// `NoRoom` comes where there is none then: each header was tried in this call. What was evicted stays so, whatever the answer.
+/// `NoRoom` comes only from that: each header was tried in this call, and no arena showed a block then. What was evicted stays so,
+/// whatever the answer.
 ///
 /// `tried` has a flag for each header, of any value. The policy has as many headers as the pool, and the keys of the seat's pins are
 /// known. Each header of the pool costs a step or a few. It takes no memory and waits for nobody.

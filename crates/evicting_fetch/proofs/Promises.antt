@@ -139,7 +139,7 @@ module _ (files : Option Files) (g : Geometry) (id : ℕ) (key : Key) (clock : �
         record {
           right = right_then files g id key (Unit {0}) v [] (tick ∷ ss) end v u1 x whole (touch_right files g id key (Unit {0}) v (tick ∷ ss) (pin_header pin) (next_tick clock) touches last u1 x made);
           leaves = leaves_then v u1 x (ranged_by Hit 0 (grip.Pin pin)) (hold_since (pin_header pin) v u0 u1 tick_quiet.before l.leaves) (touch_before files g id key (pin_header pin) (next_tick clock) touches last u1 x made);
-          tells = tt;
+          tells = omega (arith, sum, none);
           granted = λ b f there.
               absurd
               (elim (among_either (Granted b f) (tick ∷ ss) end there) [
@@ -184,7 +184,7 @@ module _ (files : Option Files) (g : Geometry) (id : ℕ) (key : Key) (clock : �
         record {
           right = q.right;
           leaves = q.before;
-          tells = record { front = tick ∷ ss; back = []; parts = sym (append-nil (tick ∷ ss)); early = look_early l.only; told = busy_later l.tells };
+          tells = (omega (arith, none), record { front = tick ∷ ss; back = []; parts = sym (append-nil (tick ∷ ss)); early = look_early l.only; told = busy_later l.tells });
           granted = λ b f there. absurd (q.ungranted b f there);
           opened = λ h b cells there. absurd (q.unopened h b cells there);
           published = q.unpublished;

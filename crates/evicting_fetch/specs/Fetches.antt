@@ -1,5 +1,5 @@
 -- What a fetch's answer tells of its steps, and what it leaves. Source: this project's own.
-use Rattle.std.specs.Prelude.{◌≡◌, ◌≢◌, ℕ, ◌+◌, ◌<◌, ◌%◌, ◌^◌, List, [], ◌∷◌, ◌++◌, ◌⊎◌, Option, Some, IsSomeAnd, slice_index, slice_set}
+use Rattle.std.specs.Prelude.{◌≡◌, ℕ, ◌+◌, ◌<◌, ◌%◌, ◌^◌, List, [], ◌∷◌, ◌++◌, ◌⊎◌, Option, Some, slice_index, slice_set}
 use Rattle.buffer_word.specs.declared.key_word.Key.{Key}
 use Rattle.pool_model.specs.declared.block.Block.{Block}
 use Rattle.pool_model.specs.Content.{Files}
@@ -80,12 +80,13 @@ pub record IsWayRaced (g : Geometry) (key : Key) (ss : List WordStep) (saw : ℕ
   pub free : (first_load (header_word g header) (events g ss) ≡ Some 8)
       ⊎ ((b : Block) × (found : ℕ) × Among (HeaderReleased header b found) ss)
 
+-- Where a way has the key, no header was released.
 abbrev pub Tells : Geometry → Key → List WordStep → How → Type 0
-Tells g key ss Hit = Unit {0}
+Tells g key ss Hit = releases ss ≡ 0
 Tells g key ss Filled = IsEarly (IsNowhere g key) ss
 Tells g key ss (Bypass (NoRoom words)) = IsEarly (IsNowhere g key) ss × IsNoRoom g key ss words
 Tells g key ss (Bypass (Raced saw)) = IsEarly (IsNowhere g key) ss × (IsArenaRaced g ss saw ⊎ IsWayRaced g key ss saw)
-Tells g key ss (Bypass (Busy word)) = IsEarly (λ xs. IsBusy g key xs word) ss
+Tells g key ss (Bypass (Busy word)) = (releases ss ≡ 0) × IsEarly (λ xs. IsBusy g key xs word) ss
 Tells g key ss (Bypass (SetFull states)) = IsEarly (IsNowhere g key) ss × IsSetFull g key ss states
 Tells g key ss (Bypass PolicyOut) = ⊥
 
@@ -138,8 +139,8 @@ IsLooked g key words new (Bypass PolicyOut) = ⊥
 
 -- The seat fetched a range by these steps, with that answer, and its trail grew by them and by no others. A pin of the key makes it a
 -- hit; a grant makes it filled, or the header was lost; an opening makes it filled; and one buffer is published where it is filled, and
--- else none. What is pinned is touched, once, and nothing else is. `evicted` counts the headers that were released, each of which was
--- needed. If the seat knows the words, whether the range is in the cache follows from them as they are after the tick.
+-- else none. What is pinned is touched, once, and nothing else is. `evicted` counts the headers that were released, and `needed` says
+-- for what they went. If the seat knows the words, whether the range is in the cache follows from them as they are after the tick.
 pub record IsFetch (files : Option Files) (g : Geometry) (id : ℕ) (key : Key) (ss : List WordStep) (old new : View)
     (ranged : Ranged) : Type 0 where
   pub right : AreRight files g id key (IsHit ranged.how) old [] old ss new

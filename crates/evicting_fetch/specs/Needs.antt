@@ -1,4 +1,4 @@
--- Headers are released only where a fetch needs what they have. Source: this project's own.
+-- When a fetch releases headers: for a way where none was free, and for a block where none was seen. Source: this project's own.
 use Rattle.std.specs.Prelude.{◌≡◌, ◌≢◌, ℕ, ◌+◌, ◌<◌, List, ◌++◌, ◌⊎◌, IsSomeAnd}
 use Rattle.buffer_word.specs.declared.key_word.Key.{Key}
 use Rattle.pool_model.specs.declared.block.Block.{Block}
@@ -16,7 +16,7 @@ abbrev pub IsTaken : Geometry → Key → List WordStep → Type 0
 IsTaken g key ss =
     (way : ℕ) → way < 8 → IsSomeAnd (first_load (header_word g (first_way g key + way)) (events g ss)) (λ word. word ≢ 8)
 
--- one of the ways was released, and no other header, since no way of the set was free
+-- one of the ways was released, and no other header, and no way of the set was free
 pub record IsForWay (g : Geometry) (key : Key) (ss : List WordStep) : Type 0 where
   pub header : ℕ
   pub way : IsWay g key header
@@ -24,8 +24,8 @@ pub record IsForWay (g : Geometry) (key : Key) (ss : List WordStep) : Type 0 whe
   pub one : releases ss ≡ 1
   pub taken : IsTaken g key ss
 
--- By the first steps no header was released, or one for a way; and by the others headers only for a block, behind loads by which no arena
--- had one.
+-- By the first steps no header was released, or one for a way; and by the others headers only for a block: the first behind loads by which
+-- no arena had one, and each further one where the arena of the block that came free before it showed none.
 pub record IsNeeded (g : Geometry) (key : Key) (ss : List WordStep) : Type 0 where
   pub front : List WordStep
   pub back : List WordStep

@@ -92,7 +92,7 @@ fn fetch_from<W: World, S: Store<W>>(
 /// It takes a tick of the clock. The key's set is looked up: where a way has the key and can be pinned, that is a `Hit`, and the store
 /// isn't read. Else the range is read from the store into `scratch`, once. Where no way has the key, it is placed in a header of its set
 /// and a block of an arena, which is `Filled`; where there is none, buffers are evicted in the policy's order. What is pinned then is
-/// touched at the tick. Else the range isn't cached: a `Bypass` names why. What was evicted stays so.
+/// touched at the tick. Else the range isn't cached: a `Bypass` names why. What was evicted stays so; with a `Hit` or `Busy` nothing was.
 ///
 /// `SetFull` comes only where each way of the set was tried in this call, `NoRoom` only where each header was, `Raced` only where an
 /// exchange came back with a word that none of this call's own steps had left, and `Busy` where a way has the key and can't be pinned.

@@ -23,7 +23,7 @@ returns-in-Ok-clause-left g c start tried lt h =
     let P : Option Placed → Type 0 = λ r. RoomLeft files sizes id wanted start (slice_set tried c.args.header true) c.saturating_add.result (view c.place.new.seat) r in
     subst P (sym c.unless_full.ensures)
     (placed_for files sizes id wanted start tried c.args.evicted.now c.args.header c.requires.header c.in-Ok.block from (from + 1) c.saturating_add.result t.0 p.0
-    (view c.args.seat.now) (view c.try_header.new.seat) (view c.place.new.seat) h t.2 t.1 c.try_header.ensures.marks c.try_header.ensures.grants c.saturating_add.ensures refl refl c.requires.free c.place.result (subst I c.try_header.ensures.seat.same p.1))
+    (view c.args.seat.now) (view c.try_header.new.seat) (view c.place.new.seat) h t.2 t.1 c.try_header.ensures.marks c.try_header.ensures.grants c.saturating_add.ensures refl refl c.requires.free c.requires.wanted.order c.place.result (subst I c.try_header.ensures.seat.same p.1))
 
 pub returns-in-Err-clause-left : goal.returns-in-Err-clause-left
 returns-in-Err-clause-left g c start tried lt h =
