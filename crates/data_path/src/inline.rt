@@ -1,8 +1,9 @@
 //! The run of a plan's bytes, by the caller alone.
-ghost use Rattle.std.specs.Prelude.{◌≡◌, ℕ, IfOk};
+ghost use Rattle.std.specs.Prelude.{◌≡◌, ℕ, [], Some, IfOk, length};
 ghost use Rattle.outside.specs.Cause.{Rose};
 ghost use Rattle.pool_rule.specs.declared.view.Hold.TheVariants.{Free};
-ghost use Rattle.pool_rule.specs.Seats.{mark_at};
+ghost use Rattle.pool_rule.specs.Rule.{first_words};
+ghost use Rattle.pool_rule.specs.Seats.{HasNothing, mark_at};
 ghost use Rattle.buffer_pool.specs.Pools.{IsSeatOf, sizes_of, view};
 ghost use Rattle.range_cache.specs.Caches.{half_life_of, pool_of};
 ghost use Rattle.evicting_fetch.specs.Evictors.{IsEvictorOf};
@@ -15,6 +16,7 @@ ghost use Rattle.data_path.specs.Headline.{Answers, CompletesAlone, Prints};
 ghost use Rattle.data_path.specs.RunText.{AreTotals};
 ghost use Rattle.held_ranges.specs.Counts.{AreStepsCounted};
 ghost use Rattle.scan_inline.specs.Counts.{AreCounted};
+ghost use Rattle.scan_inline.specs.Through.{RanThrough, standing};
 
 use crate::cache_scanner::CacheScanner;
 use crate::faulty_plan::fault_line;
@@ -42,6 +44,10 @@ fn cache_for<W: World>(
     ensures half_life { IfOk result (λ r. half_life_of r.0 ≡ options.now.half_life) }
     ensures seat { IfOk result (λ r. IsSeatOf (pool_of r.0) r.1) }
     ensures no_pin { IfOk result (λ r. (header : ℕ) → (mark_at (view r.1) header).hold ≡ Free) }
+    ensures numbers { IfOk result (λ r. length (view r.1).numbers ≡ 1) }
+    ensures words { IfOk result (λ r. (view r.1).known ≡ Some (first_words (geometry_of options.now))) }
+    ensures nothing { IfOk result (λ r. HasNothing (view r.1)) }
+    ensures trail { IfOk result (λ r. (view r.1).trail ≡ []) }
 {
     let geometry = Geometry {
         min_block: options.min_block,
@@ -75,6 +81,8 @@ fn run_through<W: World, S: Store<W>>(
     ensures run { IfOk result (HasRun W.files (S.fault_count last.old) (S.fault_count last.new) plan.now) }
     ensures counted { AreCounted (S.reads last.old) (S.reads last.new) totals.old totals.new }
     ensures steps { AreStepsCounted W.files (pool_of cache.now) seat.old seat.new totals.old totals.new }
+    ensures ran { RanThrough W.files cache.now (standing seat.old evictor.old (S.reads last.old) totals.old)
+        (standing seat.new evictor.new (S.reads last.new) totals.new) }
 {
     let mut scanner = CacheScanner::new(cache, seat, evictor, last, scratch, totals);
     run_plan(alloc, plan, &mut scanner)
@@ -91,7 +99,7 @@ fn run_over<W: World, S: Store<W>>(
     requires in_range { AreInRange options.now }
     ensures run { IfOk result (λ r. HasRun W.files (S.fault_count last.old) (S.fault_count last.new) plan.now r.0) }
     ensures counted { IfOk result (λ r. AreTotals (S.reads last.old) (S.reads last.new) r.1) }
-    ensures through { IfOk result (λ r. IsThrough W W.files options.now r.1) }
+    ensures through { IfOk result (λ r. IsThrough W W.files (S.reads last.old) (S.reads last.new) options.now r.1) }
 {
     let (cache, mut seat) = match cache_for(alloc, options) {
         Ok(made) => made,
@@ -144,8 +152,8 @@ pub fn alone<W: World, S: Store<W>, K: Sink>(
 ) -> Status
     requires in_range { AreInRange options.now }
     ensures answers { Answers
-        (Prints W.files (IsThrough W W.files options.now) (S.fault_count last.old) (S.fault_count last.new)
-        (S.reads last.old) (S.reads last.new) (last.new ≡ last.old) plan.now)
+        (Prints W.files (IsThrough W W.files (S.reads last.old) (S.reads last.new) options.now) (S.fault_count last.old)
+        (S.fault_count last.new) (S.reads last.old) (S.reads last.new) (last.new ≡ last.old) plan.now)
         (Rose (K.fault_count out.old) (K.fault_count out.new)) ⊥ (K.content out.old) (K.content out.new) result }
     ensures complete { CompletesAlone W.files (Rose (S.fault_count last.old) (S.fault_count last.new))
         (Rose (K.fault_count out.old) (K.fault_count out.new)) plan.now (K.content out.old) (K.content out.new) result }

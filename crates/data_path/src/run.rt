@@ -72,7 +72,7 @@ pub fn llapd<W: World, P: Source, S: Store<W> + Send + Drop, K: Sink, G: Gate + 
           store_reads = S.reads last.old;
           store_reads' = S.reads last.new;
         })
-        (IsThrough W W.files) (plan.new ≡ plan.old) (last.new ≡ last.old))
+        (IsThrough W W.files (S.reads last.old) (S.reads last.new)) (plan.new ≡ plan.old) (last.new ≡ last.old))
         (Rose (K.fault_count out.old) (K.fault_count out.new))
         (IsUnread
         (record {

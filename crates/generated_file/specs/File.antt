@@ -10,8 +10,8 @@ use Rattle.generated_file.specs.Columns.{generated_columns, read_columns, rows_o
 abbrev pub stripe_rows : ℕ
 stripe_rows = 10000
 
--- A file of these columns, by their kinds and spellings, with just these rows, in as few stripes as that takes; and its tail is read
--- as the stripes and the columns, if it isn't too large.
+-- A file of these columns, by their names and kinds, with just these rows, whichever columns are read, in as few stripes as that takes; and
+-- its tail is read as the stripes and the columns, if it isn't too large. In which encodings its columns stand is left open.
 pub record IsGenerated (number rows : ℕ) (file : List ℕ) : Type 0 where
   pub shapes : List Shape
   pub columns_are : AreOfSpecs generated_columns shapes

@@ -1,3 +1,4 @@
 mod Scans
 mod Finding
 mod Growth
+mod Slots

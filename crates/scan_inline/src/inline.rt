@@ -15,6 +15,7 @@ ghost use Rattle.fragment_scan.specs.Outcomes.{IsOutcomeFor};
 ghost use Rattle.io_elevator.specs.Scratch.{IsFreshFor};
 ghost use Rattle.held_ranges.specs.Counts.{AreStepsCounted};
 ghost use Rattle.scan_inline.specs.Counts.{AreCounted};
+ghost use Rattle.scan_inline.specs.Through.{RanThrough, standing};
 
 use crate::through::{counts_fit, scan_through};
 use evicting_fetch::Evictor;
@@ -79,6 +80,8 @@ pub fn scan_with<W: World, S: Store<W>>(
     ensures cause { Cause (S.fault_count store.old) (S.fault_count store.new) (result ≡ Ok (failed failure.ReadFault)) }
     ensures counted { AreCounted (S.reads store.old) (S.reads store.new) totals.old totals.new }
     ensures steps { AreStepsCounted W.files (pool_of cache.now) seat.old seat.new totals.old totals.new }
+    ensures ran { RanThrough W.files cache.now (standing seat.old evictor.old (S.reads store.old) totals.old)
+        (standing seat.new evictor.new (S.reads store.new) totals.new) }
 {
     counts_fit(totals);
     let found = match store.find(scan_of(plan, fragment).file.as_str()) {
@@ -116,6 +119,8 @@ pub fn scan_inline<W: World, S: Store<W>>(
     ensures cause { Cause (S.fault_count store.old) (S.fault_count store.new) (result ≡ Ok (failed failure.ReadFault)) }
     ensures counted { AreCounted (S.reads store.old) (S.reads store.new) totals.old totals.new }
     ensures steps { AreStepsCounted W.files (pool_of cache.now) seat.old seat.new totals.old totals.new }
+    ensures ran { RanThrough W.files cache.now (standing seat.old evictor.old (S.reads store.old) totals.old)
+        (standing seat.new evictor.new (S.reads store.new) totals.new) }
 {
     counts_fit(totals);
     let mut scratch = match Scratch::new(alloc, cache, seat) {

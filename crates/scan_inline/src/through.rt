@@ -17,6 +17,7 @@ ghost use Rattle.orc_streams.specs.Acts.{Act};
 ghost use Rattle.io_elevator.specs.Elevator.{Did};
 ghost use Rattle.io_elevator.specs.Scratch.{IsFreshFor, IsIdle};
 ghost use Rattle.scan_inline.specs.Counts.{AreCounted, HaveFit};
+ghost use Rattle.scan_inline.specs.Through.{RanThrough, standing};
 
 use evicting_fetch::Evictor;
 use fragment_outcome::Outcome;
@@ -67,6 +68,7 @@ fn scan_and_end<W: World, S: Store<W>>(
     requires number { file.number < 4096 }
     requires is_file { IsFile W.files file }
     requires fit { HaveFit elevator.old.totals.now }
+    requires idle { IsIdle elevator.old.scratch.now }
     ensures cache { elevator.new.cache.now ≡ elevator.old.cache.now }
     ensures seat_name { elevator.new.seat.ghost_name ≡ elevator.old.seat.ghost_name }
     ensures evictor_name { elevator.new.evictor.ghost_name ≡ elevator.old.evictor.ghost_name }
@@ -86,6 +88,9 @@ fn scan_and_end<W: World, S: Store<W>>(
         elevator.old.totals.now elevator.new.totals.now }
     ensures steps { AreStepsCounted W.files (pool_of elevator.old.cache.now) elevator.old.seat.now elevator.new.seat.now
         elevator.old.totals.now elevator.new.totals.now }
+    ensures ran { RanThrough W.files elevator.old.cache.now
+        (standing elevator.old.seat.now elevator.old.evictor.now (S.reads elevator.old.store.now) elevator.old.totals.now)
+        (standing elevator.new.seat.now elevator.new.evictor.now (S.reads elevator.new.store.now) elevator.new.totals.now) }
 {
     reads_are_counted::<W, S>();
     steps_are_counted::<W, S>();
@@ -149,6 +154,8 @@ pub fn scan_through<W: World, S: Store<W>>(
     ensures cause { Cause (S.fault_count store.old) (S.fault_count store.new) (IsReadFault result) }
     ensures counted { AreCounted (S.reads store.old) (S.reads store.new) totals.old totals.new }
     ensures steps { AreStepsCounted W.files (pool_of cache.now) seat.old seat.new totals.old totals.new }
+    ensures ran { RanThrough W.files cache.now (standing seat.old evictor.old (S.reads store.old) totals.old)
+        (standing seat.new evictor.new (S.reads store.new) totals.new) }
 {
     counts_fit(totals);
     let mut elevator = Elevator::new(cache, seat, evictor, store, totals, scratch);

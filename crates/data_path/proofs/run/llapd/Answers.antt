@@ -25,7 +25,7 @@ returns-in-Err-Usage-clause-answers g c =
       store_reads = g.S.Store.reads last;
       store_reads' = g.S.Store.reads last;
     } in
-    written_answers (Writes call (IsThrough _ g.W.World.files) (source ≡ source) (last ≡ last)) (IsUnread call (last ≡ last)) (g.K.Sink.content c.args.out.now) (g.K.Sink.content c.written.new.out)
+    written_answers (Writes call (IsThrough _ g.W.World.files (g.S.Store.reads last) (g.S.Store.reads last)) (source ≡ source) (last ≡ last)) (IsUnread call (last ≡ last)) (g.K.Sink.content c.args.out.now) (g.K.Sink.content c.written.new.out)
     (g.K.Sink.fault_count c.args.out.now) (g.K.Sink.fault_count c.written.new.out) usage_text Usage c.written.result tt
     (usage (c.in-Err-Usage.ensures.usage (ap Err c.in-Err-Usage.field-0-is)) refl refl) (rw c.usage_line.ensures at c.written.ensures)
 
@@ -49,10 +49,10 @@ returns-in-Ok-plan_for-clause-answers g c =
     } in
     let chosen : ChosenPlan c.in-Ok.options call.left call.left' (source' ≡ source) c.as_slice.result.now =
     subst (λ (bytes : List ℕ). ChosenPlan c.in-Ok.options call.left call.left' (source' ≡ source) bytes) (sym c.as_slice.ensures) c.in-Ok-plan_for.ensures.ok in
-    answers_more (Prints g.W.World.files (IsThrough _ g.W.World.files c.in-Ok.options) (g.S.Store.fault_count last) (g.S.Store.fault_count last') (g.S.Store.reads last) (g.S.Store.reads last') (last' ≡ last) c.as_slice.result.now)
-    (Writes call (IsThrough _ g.W.World.files) (source' ≡ source) (last' ≡ last)) (Rose (g.K.Sink.fault_count c.args.out.now) (g.K.Sink.fault_count c.alone.new.out)) ⊥ (IsUnread call (last' ≡ last))
+    answers_more (Prints g.W.World.files (IsThrough _ g.W.World.files (g.S.Store.reads last) (g.S.Store.reads last') c.in-Ok.options) (g.S.Store.fault_count last) (g.S.Store.fault_count last') (g.S.Store.reads last) (g.S.Store.reads last') (last' ≡ last) c.as_slice.result.now)
+    (Writes call (IsThrough _ g.W.World.files (g.S.Store.reads last) (g.S.Store.reads last')) (source' ≡ source) (last' ≡ last)) (Rose (g.K.Sink.fault_count c.args.out.now) (g.K.Sink.fault_count c.alone.new.out)) ⊥ (IsUnread call (last' ≡ last))
     (g.K.Sink.content c.args.out.now) (g.K.Sink.content c.alone.new.out) c.alone.result
-    (chosen_writes call (IsThrough _ g.W.World.files) (source' ≡ source) (last' ≡ last) c.in-Ok.options c.as_slice.result.now c.in-Ok.ensures.ok chosen) (λ x. absurd x) c.alone.ensures.answers
+    (chosen_writes call (IsThrough _ g.W.World.files (g.S.Store.reads last) (g.S.Store.reads last')) (source' ≡ source) (last' ≡ last) c.in-Ok.options c.as_slice.result.now c.in-Ok.ensures.ok chosen) (λ x. absurd x) c.alone.ensures.answers
 
 pub returns-in-Ok-plan_for-clause-complete : goal.returns-in-Ok-plan_for-clause-complete
 returns-in-Ok-plan_for-clause-complete g c =
@@ -71,7 +71,7 @@ returns-in-Ok-plan_for-clause-complete g c =
       store_faults' = g.S.Store.fault_count last';
       store_reads = g.S.Store.reads last;
       store_reads' = g.S.Store.reads last';
-    }) (IsThrough _ g.W.World.files) (source' ≡ source) (last' ≡ last) (Rose (g.K.Sink.fault_count c.args.out.now) (g.K.Sink.fault_count c.alone.new.out))
+    }) (IsThrough _ g.W.World.files (g.S.Store.reads last) (g.S.Store.reads last')) (source' ≡ source) (last' ≡ last) (Rose (g.K.Sink.fault_count c.args.out.now) (g.K.Sink.fault_count c.alone.new.out))
     (g.K.Sink.content c.args.out.now) (g.K.Sink.content c.alone.new.out) c.alone.result (returns-in-Ok-plan_for-clause-answers g c)
 
 pub returns-in-Ok-plan_for-clause-complete_generated : goal.returns-in-Ok-plan_for-clause-complete_generated
@@ -91,5 +91,5 @@ returns-in-Ok-plan_for-clause-complete_generated g c =
       store_faults' = g.S.Store.fault_count last';
       store_reads = g.S.Store.reads last;
       store_reads' = g.S.Store.reads last';
-    }) (IsThrough _ g.W.World.files) (source' ≡ source) (last' ≡ last) (Rose (g.K.Sink.fault_count c.args.out.now) (g.K.Sink.fault_count c.alone.new.out))
+    }) (IsThrough _ g.W.World.files (g.S.Store.reads last) (g.S.Store.reads last')) (source' ≡ source) (last' ≡ last) (Rose (g.K.Sink.fault_count c.args.out.now) (g.K.Sink.fault_count c.alone.new.out))
     (g.K.Sink.content c.args.out.now) (g.K.Sink.content c.alone.new.out) c.alone.result (returns-in-Ok-plan_for-clause-answers g c)

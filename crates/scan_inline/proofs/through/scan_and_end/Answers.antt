@@ -2,7 +2,9 @@ use Rattle.std.proofs.Common.{[], ◌∷◌}
 use Rattle.orc_streams.specs.Acts.{closes}
 use Rattle.io_elevator.specs.Laws.{did_joined}
 use Rattle.io_elevator.specs.Elevator.{as_named, desk_of, moment_of}
+use Rattle.scan_inline.specs.ThroughLaws.{through_ran}
 use Rattle.scan_inline.proofs.Growth.{ran_counted}
+use Rattle.scan_inline.proofs.Slots.{all_none}
 use Rattle.scan_inline.proofs.through.scan_and_end.Goals as goal
 
 pub returns-clause-counted : goal.returns-clause-counted
@@ -22,3 +24,13 @@ returns-clause-steps g c =
     let scanned = c.scan_by-outcome.ensures.acts in
     let did = did_joined g.W.World.files g.S.Store.reads first between last scanned.0 (closes ∷ []) scanned.1 c.end.ensures.acts in
     c.steps_are_counted.ensures (moment_of first) (as_named (desk_of first) (moment_of last)) did.deeds did.ran
+
+pub returns-clause-ran : goal.returns-clause-ran
+returns-clause-ran g c =
+    let first = c.args.elevator.now in
+    let between = c.scan_by-outcome.new.elevator in
+    let last = c.end.new.self in
+    let scanned = c.scan_by-outcome.ensures.acts in
+    let did = did_joined g.W.World.files g.S.Store.reads first between last scanned.0 (closes ∷ []) scanned.1 c.end.ensures.acts in
+    through_ran g.W.World.files g.S.Store.reads did.deeds (moment_of first) (as_named (desk_of first) (moment_of last))
+    (all_none 65 (moment_of first).slots first.slots c.requires.idle) (all_none 65 (moment_of last).slots last.slots c.end.ensures.idle) did.ran
