@@ -1,3 +1,4 @@
 mod Pushed
 mod Filled
+mod Encodings
 mod Written

@@ -1,11 +1,13 @@
 -- What a writer of a generated file's rows makes.
 use Rattle.std.proofs.Common.{◌≡◌, ℕ, ◌+◌, ◌*◌, ◌≤◌, ◌<◌, ◌^◌, List, [], ◌∷◌, length, map, Option, Result, Ok, Err, codes, refl, sym, ap, subst, ◌∙◌, arith}
+use Rattle.std.proofs.lemmas.List.Elements.{All-weaker}
 use Rattle.outside.specs.Told.{Extended}
 use Rattle.orc_tail.specs.declared.columns.TopColumn.{TopColumn}
+use Rattle.orc_tail.specs.declared.stripe.Stripe.{Stripe}
 use Rattle.orc_tail.specs.Tail.{greatest_len, tail}
 use Rattle.tail_writer.specs.Columns.{top_columns_from}
 use Rattle.table_columns.specs.Shapes.{Shape, written, opaque, file_column}
-use Rattle.table_columns.specs.Files.{IsFile}
+use Rattle.table_columns.specs.Files.{HasFooter, IsFile}
 use Rattle.orc_writer.specs.declared.fault.MakeFault.{MakeFault}
 use Rattle.orc_writer.specs.declared.fault.MakeFault.TheVariants.{Write, NoMemory}
 use Rattle.orc_writer.specs.declared.column_spec.ColumnSpec.{ColumnSpec}
@@ -13,10 +15,11 @@ use Rattle.orc_writer.specs.declared.column_spec.Spelling.TheVariants.{Direct, D
 use Rattle.orc_writer.specs.Given.{AreOfSpecs}
 use Rattle.orc_writer.specs.Writing.{Writing, IsMade, Wrote, shapes}
 use Rattle.generated_file.specs.Columns.{generated_columns, read_columns, rows_of, spec_of}
-use Rattle.generated_file.specs.File.{IsGenerated, stripe_rows}
+use Rattle.generated_file.specs.File.{HasEncodings, IsGenerated, stripe_rows}
 use Rattle.generated_file.specs.Making.{HasFirst, WroteGenerated}
 use Rattle.generated_file.proofs.Pushed.{from_qty, from_note, from_city, from_even}
 use Rattle.generated_file.proofs.Filled.{few_stripes}
+use Rattle.generated_file.proofs.Encodings.{encodings_are}
 
 top-next : (c : ColumnSpec) (columns : List ColumnSpec) (s : List Shape) (number : ℕ) (others : List TopColumn) → AreOfSpecs (c ∷ columns) s
     → ((rest : List Shape) → AreOfSpecs columns rest → top_columns_from (number + 1 + 0) (map file_column rest) ≡ others)
@@ -46,6 +49,7 @@ made_is number rows w file fits has made =
       shapes = shapes w;
       columns_are = has.columns_are;
       file_is = is;
+      encodings = All-weaker (λ (s : Stripe). HasFooter file s (shapes w)) (HasEncodings file) (λ s f. encodings_are file s (shapes w) has.columns_are f) is.stripes is.footers;
       few = few;
       tail_is = λ short. is.tail_is short (omega (arith, few, fits)) ∙ ap (λ (columns : List TopColumn). Ok (record { stripes = is.stripes; columns = columns }))
           (columns-are (shapes w) has.columns_are);

@@ -217,7 +217,8 @@ columns_made (spec ∷ specs) (c ∷ columns) are =
 
 shape_made : (spec : ColumnSpec) (column : FileColumn) (content : Content) → column.name ≡ spec.name → column.kind ≡ spec.kind → column.children.items ≡ [] → IsMadeBy spec content
     → IsOfSpec spec (shape_by column content)
-shape_made spec column (Written buffer) name kind children is = (name, kind, children, is.0)
+shape_made spec column (Written buffer) name kind children is =
+    (name, kind, children, is.0, number_back spec.kind (number_of spec.spelling) buffer.spelling is.0)
 shape_made spec column (Opaque streams) name kind children is = absurd is
 
 pub shapes_made : (specs : List ColumnSpec) (columns : List TableColumn) → AreMade specs columns → AreOfSpecs specs (shapes_of columns)

@@ -1,9 +1,9 @@
 -- The steps of a writer.
-use Rattle.std.proofs.Common.{◌≡◌, ℕ, zero, suc, ◌+◌, ◌<◌, ◌≤◌, ◌^◌, List, [], ◌∷◌, ◌++◌, length, All, refl, sym, ap, subst, ◌∙◌, arith, length-append}
+use Rattle.std.proofs.Common.{◌≡◌, ℕ, zero, suc, ◌+◌, ◌<◌, ◌≤◌, ◌^◌, List, [], ◌∷◌, ◌++◌, length, map, All, refl, sym, ap, subst, ◌∙◌, arith, length-append}
 use Rattle.std.specs.Prelude.{Ok, true}
 use Rattle.std.proofs.Math.Dec.{leb}
 use Rattle.std.proofs.lemmas.Bool.{le-leb}
-use Rattle.tail_writer.specs.Tails.{IsTail, TellsRows}
+use Rattle.tail_writer.specs.Tails.{IsTail, Tells}
 use Rattle.std.proofs.lemmas.List.Elements.{All-nil, All-push, All-head, All-tail}
 use Rattle.orc_tail.specs.declared.stripe.Stripe.{Stripe}
 use Rattle.orc_tail.specs.Tail.{greatest_len, stripe_end, stripes_end_by, tail}
@@ -14,7 +14,7 @@ use Rattle.orc_rows.specs.Rows.{Rows, HaveRows}
 use Rattle.tail_writer.specs.declared.file_column.FileColumn.{FileColumn}
 use Rattle.tail_writer.specs.Columns.{top_columns_from}
 use Rattle.table_columns.specs.declared.table_column.TableColumn.{TableColumn}
-use Rattle.table_columns.specs.Shapes.{RowFits}
+use Rattle.table_columns.specs.Shapes.{file_column, RowFits}
 use Rattle.table_columns.specs.Tables.{shape_by, shapes_of, rows_with, rows_of, with_row, as_batch, without_rows}
 use Rattle.table_columns.specs.Files.{HasFooter, AreFilled}
 use Rattle.table_writer.specs.Table.{IsColumnOf}
@@ -37,6 +37,7 @@ first_is bytes stripes specs columns stripe_rows bytes_are no_stripes made some 
   begun = ([], bytes_are);
   full = rw no_stripes (All-nil (λ (s : Stripe). s.rows ≡ stripe_rows));
   room = omega arith;
+  counted = omega arith;
   some = some;
   few = few;
   columns = columns_made specs columns made;
@@ -76,6 +77,7 @@ opaque_is w columns before c is of writer = record {
   begun = writer.begun;
   full = writer.full;
   room = writer.room;
+  counted = writer.counted;
   some = writer.some;
   few = writer.few;
   columns = rw is.new_is (columns_insert w.waiting w.columns is.at c writer.columns of);
@@ -89,6 +91,7 @@ row_is w columns row fits room are writer = record {
   begun = writer.begun;
   full = writer.full;
   room = omega (arith, room);
+  counted = omega (arith, writer.counted);
   some = writer.some;
   few = writer.few;
   columns = rw are (columns_row w.waiting w.columns row fits writer.columns);
@@ -130,18 +133,21 @@ stripe_is w bytes stripes columns full adds are writer =
       begun = (rest ++ has.added, has.joined ∙ ap (λ (l : List ℕ). l ++ has.added) writer.begun.1);
       full = rw adds.1 (All-push (λ (s : Stripe). s.rows ≡ w.stripe_rows) w.stripes stripe writer.full (has.counted ∙ full));
       room = omega arith;
+      counted = omega arith;
       some = writer.some;
       few = writer.few;
       columns = rw are (columns_none w.waiting w.columns writer.columns);
     }
 
 pub stripe_same : (w : Writing) (bytes : List ℕ) (stripes : List Stripe) (columns : List TableColumn) → AddsStripe w.bytes bytes w.stripes stripes w.columns w.waiting
-    → columns ≡ without_rows w.columns → IsSame w (record w { bytes = bytes; stripes = stripes; columns = columns; waiting = 0 })
-stripe_same w bytes stripes columns adds are =
+    → columns ≡ without_rows w.columns → w.waiting ≡ w.stripe_rows → IsWriter w → IsSame w (record w { bytes = bytes; stripes = stripes; columns = columns; waiting = 0 })
+stripe_same w bytes stripes columns adds are full writer =
     let same : shapes_of columns ≡ shapes_of w.columns = ap shapes_of are ∙ shapes_none w.columns in
     record {
       shapes_are = same;
       stripe_rows_are = refl;
+      pushed_is = refl;
+      fresh = λ is. absurd (omega (arith, is.1, full, writer.some, writer.counted));
       holds = λ rows holds.
           let there : AreThere bytes (w.stripes ++ adds.0 ∷ []) (shapes_of w.columns) (record { count = holds.before.count + w.waiting; columns = behind holds.before.columns (rows_of w.columns) }) =
           there_more w.bytes bytes w.stripes w.columns holds.before adds.0 w.waiting holds.there adds.2 in
@@ -212,12 +218,13 @@ is_made w bytes file stripes end ended rows holds =
       front = bytes;
       end = ended.end;
       ends = ended.joined;
-      told = rw (sym holds.counted) ended.told;
+      told = subst (λ (n : ℕ). Tells ended.end stripes (map file_column (shapes w)) n) holds.counted
+          (subst (λ (l : List FileColumn). Tells ended.end stripes l w.pushed) (sym (shapes_map w.columns)) ended.told);
       rest = end.rest ++ ended.end;
       begins = ended.joined ∙ ap (λ (l : List ℕ). l ++ ended.end) end.begins;
     }
 
-pub is_ended : (before after end lent : List ℕ) (stripes : List Stripe) (columns : List FileColumn) (rows : ℕ) → IsTail end stripes (top_columns_from 1 columns) → TellsRows end rows
+pub is_ended : (before after end lent : List ℕ) (stripes : List Stripe) (columns : List FileColumn) (rows : ℕ) → IsTail end stripes (top_columns_from 1 columns) → Tells end stripes columns rows
     → lent ≡ end → after ≡ before ++ lent → IsEnded before after stripes columns rows
 is_ended before after end lent stripes columns rows is told same joined =
     let whole : after ≡ before ++ end = joined ∙ ap (λ (l : List ℕ). before ++ l) same in

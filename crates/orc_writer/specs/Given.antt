@@ -6,7 +6,7 @@ use Rattle.orc_columns.specs.Spelling.{spelling_of}
 use Rattle.orc_batches.specs.Batch.{behind}
 use Rattle.orc_rows.specs.Given.{no_rows}
 use Rattle.orc_rows.specs.Rows.{Rows}
-use Rattle.table_columns.specs.Shapes.{Shape, written, opaque}
+use Rattle.table_columns.specs.Shapes.{Shape, written, opaque, encoding_number}
 use Rattle.table_columns.specs.Tables.{as_batch}
 use Rattle.orc_writer.specs.declared.column_spec.ColumnSpec.{ColumnSpec}
 use Rattle.orc_writer.specs.declared.column_spec.Spelling.{Spelling}
@@ -22,10 +22,10 @@ number_of DictionaryV2 = 3
 abbrev pub IsSpec : ColumnSpec → Type 0
 IsSpec c = (spelling : Spelled) × (spelling_of c.kind (Some (number_of c.spelling)) ≡ Some spelling)
 
--- a column by what was given
+-- a column by what was given, spelled as it was asked for
 abbrev pub IsOfSpec : ColumnSpec → Shape → Type 0
 IsOfSpec c (written column spelling) = (column.name ≡ c.name) × (column.kind ≡ c.kind) × (column.children.items ≡ [])
-    × (spelling_of c.kind (Some (number_of c.spelling)) ≡ Some spelling)
+    × (spelling_of c.kind (Some (number_of c.spelling)) ≡ Some spelling) × (encoding_number spelling ≡ number_of c.spelling)
 IsOfSpec c (opaque column streams) = ⊥
 
 -- so is each, in order

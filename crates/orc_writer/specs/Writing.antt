@@ -54,10 +54,12 @@ pub record Holds (w : Writing) (rows : Rows) : Type 0 where
   pub counted : w.pushed ≡ rows.count
   pub begun : w.stripes ≡ [] → IsNone before
 
--- the same columns and rows
+-- the same columns and rows; where no row was pushed, none is
 pub record IsSame (before after : Writing) : Type 0 where
   pub shapes_are : shapes after ≡ shapes before
   pub stripe_rows_are : after.stripe_rows ≡ before.stripe_rows
+  pub pushed_is : after.pushed ≡ before.pushed
+  pub fresh : IsFresh before → IsFresh after
   pub holds : (rows : Rows) → Holds before rows → Holds after rows
 
 -- what a writer makes is a file of the rows that it holds
@@ -69,6 +71,7 @@ pub record IsWriter (w : Writing) : Type 0 where
   pub begun : (rest : List ℕ) × (w.bytes ≡ 0x4F ∷ 0x52 ∷ 0x43 ∷ rest)
   pub full : All (λ stripe. stripe.rows ≡ w.stripe_rows) w.stripes
   pub room : w.waiting ≤ w.stripe_rows
+  pub counted : w.waiting ≤ w.pushed
   pub some : 0 < w.stripe_rows
   pub few : w.stripe_rows < 2 ^ 32
   pub columns : All (IsColumnOf w.waiting) w.columns

@@ -138,7 +138,8 @@ impl Writer {
 
     /// Adds a row: for each column that is written a value, null or of the column's kind, of which a text is copied.
     ///
-    /// Answers `NoMemory` where memory was refused, or 2^64 - 1 rows were pushed, and the writer then holds the rows of before.
+    /// Answers `NoMemory` where memory was refused, or 2^64 - 1 rows were pushed, and the writer then holds the rows of before. Where
+    /// there were none, `push_opaque` may still be called.
     pub fn push_row(&mut self, row: &[Value]) -> Result<(), NoMemory>
         requires { RowFits (shapes self.old) row.now }
         ensures ok { OnOk result (Pushes self.old row.now self.new) }

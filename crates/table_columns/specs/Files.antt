@@ -1,20 +1,24 @@
 -- A file of a table, as its readers find it. Source: Apache ORC specification v1, "File Structure", "Stripe Footer" and "Column
 -- Encodings".
 use Rattle.std.specs.Prelude.{◌≡◌, ℕ, ◌+◌, ◌<◌, ◌≤◌, ◌&&◌, nat_lt, if◌then◌else◌, List, [], ◌∷◌, ◌++◌, length, map, All, Ok, Some, slice_get, slice_range}
+use Rattle.orc_tail.specs.declared.encoding.Encoding.{Encoding}
 use Rattle.orc_tail.specs.declared.stream.StreamRange.{StreamRange}
 use Rattle.orc_tail.specs.declared.stripe.Stripe.{Stripe}
 use Rattle.orc_tail.specs.declared.stripe_footer.StripeFooter.{StripeFooter}
 use Rattle.orc_tail.specs.StripeFooter.{stripe_footer}
 use Rattle.orc_tail.specs.Tail.{greatest_len, most_stripes, tail}
 use Rattle.orc_values.specs.Column.{RowValues}
+use Rattle.orc_columns.specs.declared.spelling.Spelling.{Spelling}
 use Rattle.orc_streams.specs.declared.layout.ReadColumn.{ReadColumn}
 use Rattle.orc_rows.specs.Rows.{Rows, HaveRows}
 use Rattle.tail_writer.specs.declared.file_column.FileColumn.{FileColumn}
 use Rattle.tail_writer.specs.Columns.{next_number, top_columns_from}
-use Rattle.tail_writer.specs.Tails.{TellsRows}
+use Rattle.tail_writer.specs.Tails.{Tells}
+use Rattle.column_writer.specs.declared.encoded.Encoded.{Encoded}
 use Rattle.stripe_writer.specs.declared.stream_bytes.StreamBytes.{StreamBytes}
+use Rattle.stripe_writer.specs.Parts.{and_column}
 use Rattle.table_columns.specs.declared.table_column.OpaqueStream.{OpaqueStream}
-use Rattle.table_columns.specs.Shapes.{Shape, written, opaque, file_column, next_of, AreRead}
+use Rattle.table_columns.specs.Shapes.{Shape, written, opaque, file_column, next_of, encoding_number, AreRead}
 
 -- ---- what nobody reads
 
@@ -41,20 +45,39 @@ pub record HasOpaque (file : List ℕ) (footer : StripeFooter) (number : ℕ) (c
   pub direct : (n : ℕ) → number ≤ n → n < next_number number column
       → slice_get footer.encodings n ≡ Some (record { kind = 0; dictionary_size = 0 })
 
--- so has each of the columns that aren't read, of which the first of all has that number
-abbrev pub HaveOpaque : List ℕ → StripeFooter → ℕ → List Shape → Type 0
-HaveOpaque file footer number [] = Unit {0}
-HaveOpaque file footer number (written column spelling ∷ shapes) = HaveOpaque file footer (next_number number column) shapes
-HaveOpaque file footer number (opaque column streams ∷ shapes) =
-    HasOpaque file footer number column streams × HaveOpaque file footer (next_number number column) shapes
+-- ---- what is written
 
--- The stripe's footer is read. It has an encoding for each type, the root's DIRECT, and the streams of the columns that aren't read.
+-- The column has the encoding that spells its values so, and its streams are PRESENT, DATA, LENGTH and DICTIONARY_DATA, in this order and
+-- without those that are empty, and no others.
+pub record HasWritten (file : List ℕ) (footer : StripeFooter) (number : ℕ) (column : FileColumn) (spelling : Spelling) : Type 0 where
+  pub encoding : Encoding
+  pub listed : slice_get footer.encodings number ≡ Some encoding
+  pub kind_is : encoding.kind ≡ encoding_number spelling
+  pub encoded : Encoded
+  pub found : found_in file (of_types number (next_number number column) footer.streams) ≡ and_column [] number encoded
+
+-- ---- each column, of which the first of all has that number
+
+abbrev pub HaveColumns : List ℕ → StripeFooter → ℕ → List Shape → Type 0
+HaveColumns file footer number [] = Unit {0}
+HaveColumns file footer number (written column spelling ∷ shapes) =
+    HasWritten file footer number column spelling × HaveColumns file footer (next_number number column) shapes
+HaveColumns file footer number (opaque column streams ∷ shapes) =
+    HasOpaque file footer number column streams × HaveColumns file footer (next_number number column) shapes
+
+-- each stream is of a type from one number on and below another
+abbrev pub AreOfTypes : ℕ → ℕ → List StreamRange → Type 0
+AreOfTypes from to streams = All (λ s. (from ≤ s.column) × (s.column < to)) streams
+
+-- The stripe's footer is read. It has an encoding for each type, the root's DIRECT, and of each column its encodings and its streams; and
+-- there are no other streams.
 pub record HasFooter (file : List ℕ) (stripe : Stripe) (shapes : List Shape) : Type 0 where
   pub footer : StripeFooter
   pub is : stripe_footer file stripe ≡ Ok footer
   pub counted : length footer.encodings ≡ next_of 1 shapes
   pub root : slice_get footer.encodings 0 ≡ Some (record { kind = 0; dictionary_size = 0 })
-  pub have : HaveOpaque file footer 1 shapes
+  pub have : HaveColumns file footer 1 shapes
+  pub no_others : AreOfTypes 1 (next_of 1 shapes) footer.streams
 
 -- ---- the whole
 
@@ -65,8 +88,8 @@ AreFilled rows (s ∷ []) = (0 < s.rows) × (s.rows ≤ rows)
 AreFilled rows (s ∷ t ∷ stripes) = (s.rows ≡ rows) × AreFilled rows (t ∷ stripes)
 
 -- A file of a table with these columns and these rows, in stripes of so many: its tail has the columns, if it isn't too large and
--- hasn't too many stripes; its stripes have the rows, whichever columns are read, and the streams that nobody reads; and its footer
--- ends with the number of rows.
+-- hasn't too many stripes; its stripes have the rows, whichever columns are read, and each column its encodings and streams; and its
+-- footer has the types of all columns and their children, and ends with the number of rows.
 pub record IsFile (shapes : List Shape) (stripe_rows : ℕ) (rows : Rows) (file : List ℕ) : Type 0 where
   pub stripes : List Stripe
   pub tail_is : length file ≤ greatest_len → length stripes ≤ most_stripes
@@ -78,6 +101,6 @@ pub record IsFile (shapes : List Shape) (stripe_rows : ℕ) (rows : Rows) (file 
   pub front : List ℕ
   pub end : List ℕ
   pub ends : file ≡ front ++ end
-  pub told : TellsRows end rows.count
+  pub told : Tells end stripes (map file_column shapes) rows.count
   pub rest : List ℕ
   pub begins : file ≡ 0x4F ∷ 0x52 ∷ 0x43 ∷ rest

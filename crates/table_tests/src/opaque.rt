@@ -6,7 +6,7 @@ use crate::one_file::scanned;
 use crate::writers::{made, push, writer_of};
 use orc_columns::Value;
 use orc_writer::{OpaqueStream, Spelling, Writer};
-use outside::Bytes;
+use outside::{Bytes, NoMemory};
 use std::alloc::Global;
 
 /// Two stripes of two rows and one. Each has DATA of the column 1, then PRESENT of the LIST 2 and DATA of its child 3, then DATA of the
@@ -22,6 +22,10 @@ const PRINTED: &[u8] = b"r rows 3
 1\t3
 2\t4
 5\t6
+";
+
+const ONE_PRINTED: &[u8] = b"r rows 1
+1
 ";
 
 /// A stream of the column, or of its only child.
@@ -58,6 +62,19 @@ fn push_list(alloc: Global, writer: &mut Writer) -> Option<()>
         .ok()
 }
 
+/// Adds the first row, or where memory is refused for it the LIST: no row was pushed then, so it may still stand.
+fn push_row_or_list(alloc: Global, writer: &mut Writer, row: &[Value]) -> Option<()>
+    requires { IsFresh writer.old }
+{
+    if !writer.takes(row) {
+        return None;
+    }
+    match writer.push_row(row) {
+        Ok(()) => Some(()),
+        Err(NoMemory) => push_list(alloc, writer),
+    }
+}
+
 /// Whether its streams stand in each stripe, and the rows beside it are read back.
 fn is_kept(alloc: Global) -> Option<bool> {
     let columns = [
@@ -74,6 +91,20 @@ fn is_kept(alloc: Global) -> Option<bool> {
     let bytes = file.written()?;
     let printed = scanned(alloc, bytes, "r rows a,c from t.orc")?;
     Some(bytes.starts_with(FILE) && printed.written()? == PRINTED)
+}
+
+/// Whether a first row stands alone where it isn't refused.
+fn is_alone(alloc: Global) -> Option<bool> {
+    let mut writer = writer_of(alloc, &[(b"a", 4, Spelling::Direct)], 2)?;
+    push_row_or_list(alloc, &mut writer, &[Value::Int(1)])?;
+    let file = made(alloc, writer)?;
+    let printed = scanned(alloc, file.written()?, "r rows a from t.orc")?;
+    Some(printed.written()? == ONE_PRINTED)
+}
+
+#[test]
+fn a_first_row_that_is_not_refused_stands_alone(rt: HostRuntime) {
+    assert!(rt; is_alone(rt.alloc()) == Some(true));
 }
 
 #[test]

@@ -33,7 +33,7 @@ use Rattle.table_columns.specs.declared.table_column.OpaqueStream.{OpaqueStream}
 use Rattle.table_columns.specs.declared.table_column.TableColumn.{TableColumn}
 use Rattle.table_columns.specs.Shapes.{Shape, file_column, next_of, encoding_number, IsSpelled, IsNumbered, IsRead, AreRead}
 use Rattle.table_columns.specs.Tables.{shape_by, shapes_of, rows_with, rows_of, HasCount, AreChildren}
-use Rattle.table_columns.specs.Files.{of_types, found_in, as_streams, HaveOpaque}
+use Rattle.table_columns.specs.Files.{of_types, found_in, as_streams, HaveColumns, AreOfTypes}
 use Rattle.table_writer.specs.Table.{IsColumnOf, HasTable}
 use Rattle.table_writer.specs.Stands.{AddsPart, directs, SoFar, AddsWritten, AddsOpaque, AddsColumn, parts_of, Within, Stands, StandsOpaque, StandsBy, StandAll, next_in, Stand}
 
@@ -141,6 +141,11 @@ next_above number (c ∷ columns) = omega (arith, next_above (next_number number
 abbrev with_more : SoFar → List StreamBytes → List Encoding → SoFar
 with_more s parts encodings = record { parts = s.parts ++ parts; encodings = s.encodings ++ encodings }
 
+still_found : (parts more : List StreamBytes) (number next bound last : ℕ) → next ≤ bound → Within bound last more → parts_of number next (parts ++ more) ≡ parts_of number next parts
+still_found parts more number next bound last below within =
+    parts_append number next parts more ∙ ap (λ (l : List StreamBytes). parts_of number next parts ++ l) (no_parts number next bound last more (inl below) within)
+    ∙ append-nil (parts_of number next parts)
+
 still_by : (s : SoFar) (number bound last : ℕ) (column : FileColumn) (content : Content) (parts : List StreamBytes) (encodings : List Encoding) → next_number number column ≤ bound → Within bound last parts
     → StandsBy s number column content → StandsBy (with_more s parts encodings) number column content
 still_by s number bound last column (Written buffer) parts encodings below within before =
@@ -158,12 +163,10 @@ still_by s number bound last column (Written buffer) parts encodings below withi
         lengths = first_stays 2 number s.parts parts none ∙ before.has_streams.lengths;
         dictionary = first_stays 3 number s.parts parts none ∙ before.has_streams.dictionary;
       };
+      found = still_found s.parts parts number (next_number number column) bound last below within ∙ before.found;
     }
 still_by s number bound last column (Opaque streams) parts encodings below within before = record {
-  found =
-      parts_append number (next_number number column) s.parts parts
-      ∙ ap (λ (l : List StreamBytes). parts_of number (next_number number column) s.parts ++ l) (no_parts number (next_number number column) bound last parts (inl below) within)
-      ∙ append-nil (parts_of number (next_number number column) s.parts) ∙ before.found;
+  found = still_found s.parts parts number (next_number number column) bound last below within ∙ before.found;
   direct = λ n low high. get_front s.encodings encodings (record { kind = 0; dictionary_size = 0 }) n (before.direct n low high);
 }
 
@@ -222,7 +225,7 @@ pub record Own (parts after : List StreamBytes) (number : ℕ) : Type 0 where
   pub joined : after ≡ parts ++ more
   pub within : Within number (number + 1) more
 
-own_one : (parts : List StreamBytes) (kind number : ℕ) (bytes : List ℕ) → Own parts (and_stream parts kind number bytes) number
+abbrev own_one : (parts : List StreamBytes) (kind number : ℕ) (bytes : List ℕ) → Own parts (and_stream parts kind number bytes) number
 own_one parts kind number bytes =
     let p : StreamBytes = record { kind = kind; column = number; bytes = bytes } in
     record {
@@ -231,14 +234,14 @@ own_one parts kind number bytes =
       within = own_within (length bytes == 0) number p refl;
     }
 
-own_then : (parts between after : List StreamBytes) (number : ℕ) → Own parts between number → Own between after number → Own parts after number
+abbrev own_then : (parts between after : List StreamBytes) (number : ℕ) → Own parts between number → Own between after number → Own parts after number
 own_then parts between after number one two = record {
   more = one.more ++ two.more;
   joined = two.joined ∙ ap (λ (l : List StreamBytes). l ++ two.more) one.joined ∙ append_assoc parts one.more two.more;
   within = All-append (λ (p : StreamBytes). (number ≤ p.column) × (p.column < number + 1)) one.more two.more one.within two.within;
 }
 
-own_column : (parts : List StreamBytes) (number : ℕ) (e : Encoded) → Own parts (and_column parts number e) number
+abbrev own_column : (parts : List StreamBytes) (number : ℕ) (e : Encoded) → Own parts (and_column parts number e) number
 own_column parts number e =
     let one = and_stream parts 0 number e.present in
     let two = and_stream one 1 number e.body in
@@ -251,15 +254,17 @@ one_more : (children : List ℕ) → children ≡ [] → 1 ≡ 1 + length childr
 one_more children is = omega (arith, ap length is)
 
 with_written : (columns : List TableColumn) (s after : SoFar) (c : TableColumn) (buffered : Buffered) → ColumnIsAdded → Stand columns s → c.column.children.items ≡ [] → AddsWritten s after buffered
-    → ((t : SoFar) → Stands t.parts t.encodings (length s.encodings) buffered → StandsBy t (length s.encodings) c.column c.content) → Stand (columns ++ c ∷ []) after
+    → ((t : SoFar) → Stands t.parts t.encodings (length s.encodings) (next_number (length s.encodings) c.column) buffered → StandsBy t (length s.encodings) c.column c.content) → Stand (columns ++ c ∷ []) after
 with_written columns s after c buffered added before no_children adds by =
     let number = length s.encodings in
+    let next = next_number number c.column in
+    let same : number + 1 ≡ next = omega (arith, ap length no_children) in
     let e = adds.1.0 in
     let x : Encoding = record { kind = encoding_number buffered.spelling; dictionary_size = adds.0 } in
     let own = own_column s.parts number e in
     let parts_are : after.parts ≡ s.parts ++ own.more = adds.1.3 ∙ own.joined in
     let after_is : after ≡ with_more s own.more (x ∷ []) = rw (parts_are, adds.2) refl in
-    let stands : Stands (s.parts ++ own.more) (s.encodings ++ x ∷ []) number buffered = record {
+    let stands : Stands (s.parts ++ own.more) (s.encodings ++ x ∷ []) number next buffered = record {
       encoding = x;
       encoded = e;
       listed = get_last s.encodings x;
@@ -267,6 +272,10 @@ with_written columns s after c buffered added before no_children adds by =
       size = sym adds.1.2;
       has_rows = adds.1.1;
       has_streams = subst (λ (l : List StreamBytes). HasStreams number l (streams_of e)) own.joined (added s.parts number e (none_within 1 number number s.parts (inr (omega arith)) before.within));
+      found =
+          parts_append number next s.parts own.more
+          ∙ ap (λ (l : List StreamBytes). l ++ parts_of number next own.more) (no_parts number next 1 number s.parts (inr (omega arith)) before.within)
+          ∙ all_parts number next own.more (subst (λ (n : ℕ). Within number n own.more) same own.within) ∙ sym (own_column [] number e).joined;
     } in
     subst (λ (t : SoFar). Stand (columns ++ c ∷ []) t) (sym after_is)
     (stand_with columns s c own.more (x ∷ []) before (one_more c.column.children.items no_children) own.within (by (with_more s own.more (x ∷ [])) stands))
@@ -357,10 +366,10 @@ pub record ReadAs (parts : List StreamBytes) (footer : StripeFooter) (rows : ℕ
   pub rows_are : written.buffered.rows ≡ values
   pub is : IsWritten parts footer rows written
 
-read_here : (parts : List StreamBytes) (footer : StripeFooter) (rows number : ℕ) (column : FileColumn) (buffered : Buffered) (read : ReadColumn) (values : RowValues) → Stands parts footer.encodings number buffered
+read_here : (parts : List StreamBytes) (footer : StripeFooter) (rows number next : ℕ) (column : FileColumn) (buffered : Buffered) (read : ReadColumn) (values : RowValues) → Stands parts footer.encodings number next buffered
     → length buffered.rows ≡ rows → spelling_of column.kind (Some (encoding_number buffered.spelling)) ≡ Some buffered.spelling → IsNumbered number column read → values ≡ buffered.rows
     → ReadAs parts footer rows read values
-read_here parts footer rows number column buffered read values stands counted spelled numbered are = record {
+read_here parts footer rows number next column buffered read values stands counted spelled numbered are = record {
   written = record { column = read; encoding = stands.encoding; buffered = buffered; encoded = stands.encoded };
   column_is = refl;
   rows_are = sym are;
@@ -374,18 +383,18 @@ read_here parts footer rows number column buffered read values stands counted sp
   };
 }
 
-read_or : (parts : List StreamBytes) (footer : StripeFooter) (rows number : ℕ) (column : FileColumn) (buffered : Buffered) (read : ReadColumn) (values : RowValues) (Later : Type 0) → Stands parts footer.encodings number buffered
+read_or : (parts : List StreamBytes) (footer : StripeFooter) (rows number next : ℕ) (column : FileColumn) (buffered : Buffered) (read : ReadColumn) (values : RowValues) (Later : Type 0) → Stands parts footer.encodings number next buffered
     → length buffered.rows ≡ rows → spelling_of column.kind (Some (encoding_number buffered.spelling)) ≡ Some buffered.spelling → (IsNumbered number column read × (values ≡ buffered.rows)) ⊎ Later
     → (Later → ReadAs parts footer rows read values) → ReadAs parts footer rows read values
-read_or parts footer rows number column buffered read values Later stands counted spelled (inl here) later = read_here parts footer rows number column buffered read values stands counted spelled here.0 here.1
-read_or parts footer rows number column buffered read values Later stands counted spelled (inr there) later = later there
+read_or parts footer rows number next column buffered read values Later stands counted spelled (inl here) later = read_here parts footer rows number next column buffered read values stands counted spelled here.0 here.1
+read_or parts footer rows number next column buffered read values Later stands counted spelled (inr there) later = later there
 
 read_by : (parts : List StreamBytes) (footer : StripeFooter) (rows number : ℕ) (column : FileColumn) (content : Content) (shapes : List Shape) (batch : Batch) (read : ReadColumn) (values : RowValues)
     → StandsBy (record { parts = parts; encodings = footer.encodings }) number column content → HasCount rows content → IsSpelled (shape_by column content)
     → IsRead number (shape_by column content ∷ shapes) (rows_with content batch) read values
     → (IsRead (next_number number column) shapes batch read values → ReadAs parts footer rows read values) → ReadAs parts footer rows read values
 read_by parts footer rows number column (Written buffer) shapes batch read values stands counted spelled is later =
-    read_or parts footer rows number column buffer read values (IsRead (next_number number column) shapes batch read values) stands counted spelled.0 is later
+    read_or parts footer rows number (next_number number column) column buffer read values (IsRead (next_number number column) shapes batch read values) stands counted spelled.0 is later
 read_by parts footer rows number column (Opaque streams) shapes batch read values stands counted spelled is later = later is
 
 read_as : (parts : List StreamBytes) (footer : StripeFooter) (rows number : ℕ) (columns : List TableColumn) (read : ReadColumn) (values : RowValues)
@@ -439,26 +448,44 @@ found_is from to front back (p ∷ parts) file at whole begins =
     (middle front p.bytes (body_of parts ++ back) file at split begins)
     (found_is from to (front ++ p.bytes) back parts file (at + length p.bytes) next (omega (arith, begins, length-append front p.bytes)))
 
-opaque_by : (front back : List ℕ) (parts : List StreamBytes) (footer : StripeFooter) (number : ℕ) (column : FileColumn) (content : Content) (shapes : List Shape) → footer.streams ≡ placed (length front) (listed parts)
+-- where the streams of types are found
+types_found : (from to : ℕ) (front back : List ℕ) (parts : List StreamBytes) (footer : StripeFooter) → footer.streams ≡ placed (length front) (listed parts)
+    → found_in (front ++ (body_of parts ++ back)) (of_types from to footer.streams) ≡ parts_of from to parts
+types_found from to front back parts footer listed_at =
+    ap (λ (l : List StreamRange). found_in (front ++ (body_of parts ++ back)) (of_types from to l)) listed_at ∙ found_is from to front back parts (front ++ (body_of parts ++ back)) (length front) refl refl
+
+column_by : (front back : List ℕ) (parts : List StreamBytes) (footer : StripeFooter) (number : ℕ) (column : FileColumn) (content : Content) (shapes : List Shape) → footer.streams ≡ placed (length front) (listed parts)
     → StandsBy (record { parts = parts; encodings = footer.encodings }) number column content
-    → HaveOpaque (front ++ (body_of parts ++ back)) footer (next_number number column) shapes
-    → HaveOpaque (front ++ (body_of parts ++ back)) footer number (shape_by column content ∷ shapes)
-opaque_by front back parts footer number column (Written buffer) shapes listed_at stands others = others
-opaque_by front back parts footer number column (Opaque streams) shapes listed_at stands others = (
+    → HaveColumns (front ++ (body_of parts ++ back)) footer (next_number number column) shapes
+    → HaveColumns (front ++ (body_of parts ++ back)) footer number (shape_by column content ∷ shapes)
+column_by front back parts footer number column (Written buffer) shapes listed_at stands others = (
   record {
-    found =
-        ap (λ (l : List StreamRange). found_in (front ++ (body_of parts ++ back)) (of_types number (next_number number column) l)) listed_at
-        ∙ found_is number (next_number number column) front back parts (front ++ (body_of parts ++ back)) (length front) refl refl ∙ stands.found;
-    direct = stands.direct;
+    encoding = stands.encoding;
+    listed = stands.listed;
+    kind_is = stands.spelled;
+    encoded = stands.encoded;
+    found = types_found number (next_number number column) front back parts footer listed_at ∙ stands.found;
   },
   others,
 )
+column_by front back parts footer number column (Opaque streams) shapes listed_at stands others = (
+  record { found = types_found number (next_number number column) front back parts footer listed_at ∙ stands.found; direct = stands.direct },
+  others,
+)
 
-have_opaque : (front back : List ℕ) (parts : List StreamBytes) (footer : StripeFooter) (number : ℕ) (columns : List TableColumn) → footer.streams ≡ placed (length front) (listed parts)
-    → StandAll (record { parts = parts; encodings = footer.encodings }) number columns → HaveOpaque (front ++ (body_of parts ++ back)) footer number (shapes_of columns)
-have_opaque front back parts footer number [] listed_at stand = tt
-have_opaque front back parts footer number (c ∷ columns) listed_at stand =
-    opaque_by front back parts footer number c.column c.content (shapes_of columns) listed_at stand.0 (have_opaque front back parts footer (next_number number c.column) columns listed_at stand.1)
+have_columns : (front back : List ℕ) (parts : List StreamBytes) (footer : StripeFooter) (number : ℕ) (columns : List TableColumn) → footer.streams ≡ placed (length front) (listed parts)
+    → StandAll (record { parts = parts; encodings = footer.encodings }) number columns → HaveColumns (front ++ (body_of parts ++ back)) footer number (shapes_of columns)
+have_columns front back parts footer number [] listed_at stand = tt
+have_columns front back parts footer number (c ∷ columns) listed_at stand =
+    column_by front back parts footer number c.column c.content (shapes_of columns) listed_at stand.0 (have_columns front back parts footer (next_number number c.column) columns listed_at stand.1)
+
+-- there are no streams of other types
+placed_within : (from to at : ℕ) (parts : List StreamBytes) → Within from to parts → AreOfTypes from to (placed at (listed parts))
+placed_within from to at [] within = All-nil (λ (s : StreamRange). (from ≤ s.column) × (s.column < to))
+placed_within from to at (p ∷ parts) within =
+    All-cons (λ (s : StreamRange). (from ≤ s.column) × (s.column < to)) (record { kind = p.kind; column = p.column; at = at; len = length p.bytes }) (placed (at + length p.bytes) (listed parts))
+    (All-head (λ (q : StreamBytes). (from ≤ q.column) × (q.column < to)) p parts within)
+    (placed_within from to (at + length p.bytes) parts (All-tail (λ (q : StreamBytes). (from ≤ q.column) × (q.column < to)) p parts within))
 
 same_column : (column : FileColumn) (content : Content) → file_column (shape_by column content) ≡ column
 same_column column (Written buffer) = refl
@@ -487,6 +514,7 @@ has_table before after body stripe streams encodings rows columns parts there st
     } in
     let footer : StripeFooter = record { streams = placed stripe.at (map part_view streams); encodings = encodings } in
     let listed_at : footer.streams ≡ placed (length before) (listed parts) = ap (λ (l : List Stream). placed stripe.at l) listed_is ∙ ap (λ (n : ℕ). placed n (listed parts)) made.begins in
+    let counted : length encodings ≡ next_of 1 (shapes_of columns) = stand.counted ∙ sym (next_is 1 columns) in
     let whole : (back : List ℕ) → after ++ back ≡ before ++ (body_of parts ++ (made.footer ++ back)) =
     λ back. ap (λ (l : List ℕ). l ++ back) made.joined ∙ append_assoc before (body ++ made.footer) back ∙ ap (λ (l : List ℕ). before ++ l) (append_assoc body made.footer back)
     ∙ ap (λ (l : List ℕ). before ++ (l ++ (made.footer ++ back))) body_is in
@@ -499,9 +527,11 @@ has_table before after body stripe streams encodings rows columns parts there st
       footer_is = λ back. record {
         footer = footer;
         is = made.footer_lies back lie;
-        counted = stand.counted ∙ sym (next_is 1 columns);
+        counted = counted;
         root = stand.root;
-        have = subst (λ (file : List ℕ). HaveOpaque file footer 1 (shapes_of columns)) (sym (whole back)) (have_opaque before (made.footer ++ back) parts footer 1 columns listed_at stand.each);
+        have = subst (λ (file : List ℕ). HaveColumns file footer 1 (shapes_of columns)) (sym (whole back)) (have_columns before (made.footer ++ back) parts footer 1 columns listed_at stand.each);
+        no_others = subst (λ (l : List StreamRange). AreOfTypes 1 (next_of 1 (shapes_of columns)) l) (sym listed_at)
+            (placed_within 1 (next_of 1 (shapes_of columns)) (length before) parts (subst (λ (n : ℕ). Within 1 n parts) counted stand.within));
       };
       has = λ back read values is.
           let cs = all_read_as columns parts footer rows read values stand.each are is in

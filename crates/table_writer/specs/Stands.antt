@@ -8,7 +8,7 @@ use Rattle.footer_writer.specs.declared.stream_part.StreamPart.{StreamPart}
 use Rattle.tail_writer.specs.declared.file_column.FileColumn.{FileColumn}
 use Rattle.tail_writer.specs.Columns.{next_number}
 use Rattle.stripe_writer.specs.declared.stream_bytes.StreamBytes.{StreamBytes}
-use Rattle.stripe_writer.specs.Parts.{HasStreams, AddsBuffer}
+use Rattle.stripe_writer.specs.Parts.{and_column, HasStreams, AddsBuffer}
 use Rattle.table_columns.specs.declared.table_column.Content.{Content}
 use Rattle.table_columns.specs.declared.table_column.Content.TheVariants.{Written, Opaque}
 use Rattle.table_columns.specs.declared.table_column.OpaqueStream.{OpaqueStream}
@@ -60,8 +60,8 @@ parts_of from to (p ∷ parts) =
 abbrev pub Within : ℕ → ℕ → List StreamBytes → Type 0
 Within from to parts = All (λ p. (from ≤ p.column) × (p.column < to)) parts
 
--- the column of that number has its streams and its encoding
-pub record Stands (parts : List StreamBytes) (encodings : List Encoding) (number : ℕ) (buffered : Buffered) : Type 0 where
+-- the column of that number has its streams, no others, and its encoding
+pub record Stands (parts : List StreamBytes) (encodings : List Encoding) (number next : ℕ) (buffered : Buffered) : Type 0 where
   pub encoding : Encoding
   pub encoded : Encoded
   pub listed : slice_get encodings number ≡ Some encoding
@@ -69,6 +69,7 @@ pub record Stands (parts : List StreamBytes) (encodings : List Encoding) (number
   pub size : encoding.dictionary_size ≡ encoded.dictionary_size
   pub has_rows : HasRows buffered encoded
   pub has_streams : HasStreams number parts (streams_of encoded)
+  pub found : parts_of number next parts ≡ and_column [] number encoded
 
 -- so has one that isn't read
 pub record StandsOpaque (parts : List StreamBytes) (encodings : List Encoding) (number next : ℕ) (streams : List OpaqueStream)
@@ -78,7 +79,7 @@ pub record StandsOpaque (parts : List StreamBytes) (encodings : List Encoding) (
       → slice_get encodings n ≡ Some (record { kind = 0; dictionary_size = 0 })
 
 abbrev pub StandsBy : SoFar → ℕ → FileColumn → Content → Type 0
-StandsBy so_far number column (Written buffer) = Stands so_far.parts so_far.encodings number buffer
+StandsBy so_far number column (Written buffer) = Stands so_far.parts so_far.encodings number (next_number number column) buffer
 StandsBy so_far number column (Opaque streams) =
     StandsOpaque so_far.parts so_far.encodings number (next_number number column) streams.items
 

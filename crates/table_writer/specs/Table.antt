@@ -25,7 +25,7 @@ pub record IsColumnOf (rows : ℕ) (c : TableColumn) : Type 0 where
   pub streams : HasOwnStreams c.column c.content
 
 -- Behind the bytes before stands a stripe of that many rows, and nothing else; and whatever follows, its footer is read, with the
--- streams of the columns that aren't read, and the others, whichever of them are read and in whatever order, have their rows.
+-- encodings and the streams of each column, and those that are written, whichever are read and in whatever order, have their rows.
 pub record HasTable (before after : List ℕ) (stripe : Stripe) (columns : List TableColumn) (rows : ℕ) : Type 0 where
   pub added : List ℕ
   pub joined : after ≡ before ++ added

@@ -2,7 +2,7 @@
 
 ghost use Rattle.std.specs.Prelude.{IfOk};
 ghost use Rattle.tail_writer.specs.Columns.{top_columns_from};
-ghost use Rattle.tail_writer.specs.Tails.{IsTail, TellsRows};
+ghost use Rattle.tail_writer.specs.Tails.{IsTail, Tells};
 
 use crate::column_types::column_types;
 use crate::file_column::FileColumn;
@@ -26,7 +26,7 @@ pub fn write_tail(
     rows: u64,
 ) -> Result<Vec<u8>, AllocError>
     ensures tail { IfOk result (λ bytes. IsTail bytes.items stripes.now (top_columns_from 1 columns.now)) }
-    ensures rows { IfOk result (λ bytes. TellsRows bytes.items rows) }
+    ensures told { IfOk result (λ bytes. Tells bytes.items stripes.now columns.now rows) }
 {
     let types = column_types(alloc, columns)?;
     let footer = write_footer(alloc, stripes, &types, rows)?;

@@ -1,4 +1,4 @@
-use Rattle.std.proofs.Common.{◌≡◌, ◌∙◌, List, map, ap}
+use Rattle.std.proofs.Common.{◌≡◌, ◌∙◌, List, map, Ok, ap}
 use Rattle.orc_tail.specs.Messages.{TypeMessage}
 use Rattle.orc_tail.specs.Tail.{top_columns}
 use Rattle.footer_writer.specs.declared.file_type.FileType.{FileType}
@@ -15,5 +15,12 @@ returns-clause-tail c =
     tail_read c.in_ok-tail.tail.items c.in_ok-footer.footer.items (footer_message c.args.stripes.now c.deref.result.now) (top_columns_from 1 columns) c.in_ok-tail.ensures
     c.in_ok-footer.ensures.message (ap (λ (ts : List TypeMessage). top_columns ts) types ∙ columns_read columns)
 
-pub returns-clause-rows : goal.returns-clause-rows
-returns-clause-rows c = record { footer = c.in_ok-footer.footer.items; ends = c.in_ok-tail.ensures; told = c.in_ok-footer.ensures.rows }
+pub returns-clause-told : goal.returns-clause-told
+returns-clause-told c =
+    let types : map file_type_view c.deref.result.now ≡ types_of c.args.columns.now = ap (λ (ts : List FileType). map file_type_view ts) c.deref.ensures.value ∙ c.in_ok-types.ensures in
+    record {
+      footer = c.in_ok-footer.footer.items;
+      ends = c.in_ok-tail.ensures;
+      is_read = c.in_ok-footer.ensures.message ∙ ap (λ (ts : List TypeMessage). Ok (record { stripes = c.args.stripes.now; types = ts })) types;
+      told = c.in_ok-footer.ensures.rows;
+    }

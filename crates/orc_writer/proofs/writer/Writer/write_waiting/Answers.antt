@@ -31,6 +31,7 @@ returns-clause-ok c =
     } in
     let adds = subst (λ (l : List TableColumn). AddsStripe w.bytes c.push_stripe.new.bytes.items w.stripes c.push_stripe.new.stripes.items l w.waiting) c.deref.ensures.value c.in_ok-push_stripe.ensures.ok in (
       rw (← c.self.view_is)
-          (stripe_same w c.push_stripe.new.bytes.items c.push_stripe.new.stripes.items c.let_go.new.columns.items adds c.let_go.ensures),
+          (stripe_same w c.push_stripe.new.bytes.items c.push_stripe.new.stripes.items c.let_go.new.columns.items adds c.let_go.ensures
+          (subst (λ (s : Writing). s.waiting ≡ s.stripe_rows) (sym c.self.view_is) c.requires) c.self.invariant),
       c.self.invariant.some,
     )
