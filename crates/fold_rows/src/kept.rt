@@ -1,125 +1,52 @@
 //! What a batch brings to a fold, once it is known which of its rows pass.
-ghost use Rattle.std.specs.Prelude.{◌≡◌, ◌<◌, ◌+◌, ◌^◌, ◌∷◌, ◌++◌, [], length, map, replicate, get_or, take, false};
-ghost use Rattle.std.specs.Prelude.{if◌then◌else◌, All, IfOk};
+ghost use Rattle.std.specs.Prelude.{◌≡◌, ◌<◌, ◌+◌, ◌^◌, [], length, replicate, get_or, take, false};
+ghost use Rattle.std.specs.Prelude.{if◌then◌else◌, All, IfOk, OnOk};
 ghost use Rattle.orc_values.specs.Column.{present_of};
 ghost use Rattle.orc_values.specs.Woven.{present_count};
 ghost use Rattle.orc_values.specs.declared.value.Value.TheVariants as value;
 ghost use Rattle.batch_masks.specs.Kept.{kept};
-ghost use Rattle.batch_masks.specs.Rows.{field, row_at};
 ghost use Rattle.batch_masks.specs.Totals.{SumOfFew};
 ghost use Rattle.fragment_plan.specs.Bounds.{FoldInBounds};
 ghost use Rattle.fragment_plan.specs.declared.fragment.FoldKind.TheVariants as kind;
 ghost use Rattle.group_counts.specs.Order.{value_cmp};
 ghost use Rattle.group_counts.specs.Tally.{added, added_all};
-ghost use Rattle.fold_rows.specs.States.{picked, once, kept_rows, with_rows, sum_in};
+ghost use Rattle.fold_rows.specs.States.{once, kept_rows, with_rows, sum_in};
 
+use crate::picks::push_kept;
 use crate::state::State;
 use batch_masks::with_kept;
-use fragment_outcome::{Row, Table};
 use fragment_plan::FoldKind;
-use group_counts::Counts;
-use orc_values::{Column, Value, count_present};
+use group_counts::{Counts, Seen};
+use orc_values::{Column, count_present};
 use outside::NoMemory;
 use std::alloc::Global;
 
-/// The value of a row in a column.
-fn value_at(alloc: Global, columns: &[Column], place: u32, row: usize) -> Result<Value, NoMemory>
-    requires place { place < length columns.now }
-    requires row { All (λ column. row < length column) columns.now }
-    ensures { IfOk result (λ v. v ≡ field (row_at columns.now row) place) }
-{
-    columns[place as usize].get(row).to_value(alloc)
-}
-
-/// The listed columns of a row.
-fn row_of(alloc: Global, places: &[u32], columns: &[Column], row: usize) -> Result<Row, NoMemory>
-    requires places { All (λ place. place < length columns.now) places.now }
-    requires row { All (λ column. row < length column) columns.now }
-    ensures { IfOk result (λ picks. picks ≡ picked places.now (row_at columns.now row)) }
-{
-    let Ok(mut values) = Vec::with_capacity(alloc, places.len()) else {
-        return Err(NoMemory);
-    };
-    for place in places {
-        let value = value_at(alloc, columns, *place, row)?;
-        if values.push(value).is_err() {
-            return Err(NoMemory);
-        }
-    }
-    Ok(Row::new(values))
-}
-
-/// Rows with the listed columns more of a row, where its flag is set.
-fn push_row(
+/// Counts a row's value, where its flag is set: in the batch's table, or by itself. So many of the rows in front of it have a value.
+fn count_row<'a>(
     alloc: Global,
-    rows: Vec<Row>,
-    places: &[u32],
-    columns: &[Column],
-    mask: &[bool],
-    row: usize,
-) -> Result<Vec<Row>, NoMemory>
-    requires places { All (λ place. place < length columns.now) places.now }
-    requires rows { All (λ column. length column ≡ length mask.now) columns.now }
-    requires row { row < length mask.now }
-    ensures { IfOk result (λ new. new.items ≡ rows.items
-        ++ (if get_or mask.now row false then picked places.now (row_at columns.now row) ∷ [] else [])) }
-{
-    let mut rows = rows;
-    if !mask[row] {
-        return Ok(rows);
-    }
-    let picks = row_of(alloc, places, columns, row)?;
-    match rows.push(picks) {
-        Ok(()) => Ok(rows),
-        Err(_) => Err(NoMemory),
-    }
-}
-
-/// A table with the listed columns more of each row whose flag is set.
-fn push_kept(
-    alloc: Global,
-    table: Table,
-    places: &[u32],
-    columns: &[Column],
-    mask: &[bool],
-) -> Result<Table, NoMemory>
-    requires places { All (λ place. place < length columns.now) places.now }
-    requires rows { All (λ column. length column ≡ length mask.now) columns.now }
-    ensures { IfOk result (λ new. new ≡ table ++ map (picked places.now) (kept_rows mask.now columns.now)) }
-{
-    let mut rows = table.into_vec();
-    for row in 0..mask.len() {
-        rows = push_row(alloc, rows, places, columns, mask, row)?;
-    }
-    Ok(Table::new(rows))
-}
-
-/// Counts with the value more of a row, where its flag is set. So many of the rows in front of it have a value.
-fn count_row(
-    alloc: Global,
-    counts: Counts,
-    column: &Column,
+    counts: &mut Counts,
+    seen: &mut Seen<'a>,
+    column: &'a Column,
     mask: &[bool],
     row: usize,
     before: usize,
-) -> Result<Counts, NoMemory>
+) -> Result<(), NoMemory>
     requires rows { length mask.now ≡ length column.now }
     requires row { row < length mask.now }
     requires before { before ≡ present_count (take row (present_of column.now)) }
-    ensures { IfOk result (λ new. new ≡
-        if get_or mask.now row false then added value_cmp counts (get_or column.now row value.Null) 1 else counts) }
+    ensures { OnOk result (added_all value_cmp counts.new seen.new ≡ (if get_or mask.now row false
+        then added value_cmp (added_all value_cmp counts.old seen.old) (get_or column.now row value.Null) 1
+        else added_all value_cmp counts.old seen.old)) }
 {
-    let mut counts = counts;
     if !mask[row] {
-        return Ok(counts);
+        return Ok(());
     }
-    match counts.add(alloc, column.get_behind(row, before), 1) {
-        Ok(()) => Ok(counts),
-        Err(_) => Err(NoMemory),
-    }
+    counts.add_seen(alloc, seen, column.get_behind(row, before))
 }
 
 /// Counts with each value more of a column's rows whose flag is set.
+///
+/// Values that come again in the batch are counted in a table of its own, and go to the counts once.
 fn count_kept(
     alloc: Global,
     counts: Counts,
@@ -129,13 +56,15 @@ fn count_kept(
     requires { length mask.now ≡ length column.now }
     ensures { IfOk result (λ new. new ≡ added_all value_cmp counts (once (kept mask.now column.now))) }
 {
+    let mut now = counts;
+    let mut seen = Seen::new(alloc)?;
     let present = column.present();
     let mut before = 0;
-    let mut now = counts;
     for row in 0..mask.len() {
-        now = count_row(alloc, now, column, mask, row, before)?;
+        count_row(alloc, &mut now, &mut seen, column, mask, row, before)?;
         before += usize::from(present[row]);
     }
+    now.add_all_seen(alloc, &seen)?;
     Ok(now)
 }
 

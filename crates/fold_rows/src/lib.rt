@@ -2,6 +2,7 @@
 #![tactic(auto)]
 
 mod kept;
+mod picks;
 mod state;
 mod whole;
 

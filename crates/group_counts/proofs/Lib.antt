@@ -2,3 +2,4 @@ mod Adding
 mod Joined
 mod Fitting
 mod TallyLaws
+mod Moved

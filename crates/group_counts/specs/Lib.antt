@@ -1,3 +1,4 @@
 pub mod Order
 pub mod Tally
 pub mod Entries
+pub mod Slots

@@ -5,9 +5,11 @@ ghost use Rattle.orc_values.specs.declared.value.Value.TheVariants as value;
 ghost use Rattle.group_counts.specs.Order.{value_cmp};
 ghost use Rattle.group_counts.specs.Tally.{added, added_all};
 ghost use Rattle.group_counts.specs.Entries.{one, renamed, by_bytes, entries_of, all_fit};
+ghost use Rattle.group_counts.specs.Slots.{counted, slot_entries};
 
 use crate::maps::{add_number, add_text, fits, more, numbers_fit, some_key, texts_fit};
 use crate::parts::Parts;
+use crate::seen::{Seen, Slot};
 use orc_values::ValueRef;
 use outside::NoMemory;
 use std::alloc::Global;
@@ -78,6 +80,53 @@ impl Counts {
             ValueRef::Int(number) => add_number(&mut self.numbers, number, count),
             ValueRef::Text(text) => add_text(alloc, &mut self.texts, text, count),
         }
+    }
+
+    /// Counts a value of a batch once more: in the batch's table, or by itself where its place there holds another.
+    ///
+    /// Answers `NoMemory` only where memory was refused.
+    pub fn add_seen<'a>(
+        &mut self,
+        alloc: Global,
+        seen: &mut Seen<'a>,
+        key: ValueRef<'a>,
+    ) -> Result<(), NoMemory>
+        ensures { OnOk result (added_all value_cmp self.new seen.new
+            ≡ added value_cmp (added_all value_cmp self.old seen.old) (shown key.entry) 1) }
+    {
+        if seen.add(key) {
+            return Ok(());
+        }
+        self.add(alloc, key, 1)
+    }
+
+    /// Counts each value of a batch's table as often more as it was counted there.
+    ///
+    /// Answers `NoMemory` only where memory was refused.
+    pub fn add_all_seen(&mut self, alloc: Global, seen: &Seen<'_>) -> Result<(), NoMemory>
+        ensures { OnOk result (self.new ≡ added_all value_cmp self.old seen.now) }
+    {
+        self.add_slots(alloc, seen.slots())
+    }
+
+    /// Counts the value of each slot as often more as it was counted there.
+    fn add_slots(&mut self, alloc: Global, slots: &[Slot<'_>]) -> Result<(), NoMemory>
+        ensures { OnOk result (self.new ≡ added_all value_cmp self.old (slot_entries slots.now)) }
+    {
+        for slot in slots {
+            self.add_slot(alloc, slot)?;
+        }
+        Ok(())
+    }
+
+    /// Counts the value of a slot as often more as it was counted there.
+    fn add_slot(&mut self, alloc: Global, slot: &Slot<'_>) -> Result<(), NoMemory>
+        ensures { OnOk result (self.new ≡ added_all value_cmp self.old (counted (shown slot.now.key) slot.now.count)) }
+    {
+        if slot.count == 0 {
+            return Ok(());
+        }
+        self.add(alloc, slot.key, slot.count)
     }
 
     /// Counts each value of other counts as often more as it stands there.

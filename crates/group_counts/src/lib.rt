@@ -5,6 +5,8 @@ mod counts;
 pub mod laws;
 mod maps;
 mod parts;
+mod seen;
 
 pub use counts::Counts;
 pub use parts::Parts;
+pub use seen::Seen;

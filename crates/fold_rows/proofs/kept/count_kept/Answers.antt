@@ -3,6 +3,8 @@ use Rattle.std.proofs.lemmas.List.{length-map, length-take}
 use Rattle.orc_values.specs.Column.{is_present, present_of}
 use Rattle.orc_values.specs.Woven.{present_count}
 use Rattle.orc_values.specs.WovenLaws.{count_more, present_count-le}
+use Rattle.group_counts.specs.Order.{value_cmp}
+use Rattle.group_counts.specs.Tally.{added_all}
 use Rattle.fold_rows.proofs.Rows.{once_more}
 use Rattle.fold_rows.proofs.kept.count_kept.Goals as goal
 
@@ -19,5 +21,5 @@ loop-row-preserved c =
     record {
       few = omega (arith, counted, present_count-le (take (l.row + 1) flags), length-take (l.row + 1) flags);
       counted = counted;
-      counts = c.in_ok-now.ensures ∙ once_more c.args.counts l.now c.args.mask.now column l.row c.requires (omega (arith, c.requires, c.loop-row-test.true)) l.invariant.counts;
+      counts = c.in_ok-count_row.ensures ∙ once_more c.args.counts (added_all value_cmp l.now l.seen) c.args.mask.now column l.row c.requires (omega (arith, c.requires, c.loop-row-test.true)) l.invariant.counts;
     }

@@ -11,5 +11,5 @@ abbrev pub invariant-loop-row : goal.invariant-loop-row
 invariant-loop-row l = record {
   few : l.before ≤ l.row;
   counted : l.before ≡ present_count (take l.row (present_of l.column));
-  counts : l.now ≡ added_all value_cmp l.fn.counts (once (kept (take l.row l.mask) (take l.row l.column)));
+  counts : added_all value_cmp l.now l.seen ≡ added_all value_cmp l.fn.counts (once (kept (take l.row l.mask) (take l.row l.column)));
 }
