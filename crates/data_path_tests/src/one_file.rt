@@ -1,59 +1,13 @@
 //! Calls of the top call over one file in memory, whose store tells nothing.
-ghost use Rattle.std.specs.Prelude.{◌≡◌, ◌≤◌, ◌+◌, ℕ, List, [], ◌∷◌, length, Option, None, OnOk, OnErr, slice_range};
 ghost use Rattle.std.specs.Prelude.{IfSome};
-ghost use Rattle.outside.specs.Cause.{HasCause};
 ghost use Rattle.command_line.specs.Options.{AreInRange};
-ghost use Rattle.outside.specs.Files.{HasBytes, IsFile, range_of};
-ghost use Rattle.outside.specs.Told.{Extended};
-ghost use Rattle.outside.specs.declared.file_ref.FileRange.{FileRange};
 
 use crate::top_call::{run, sink_of, source_of};
 use command_line::{Options, options};
 use data_path::alone;
-use outside::{Failed, FileRef, MemorySink, MemorySource, RealWorld, Store};
+use outside::{MemorySink, MemorySource, RealWorld};
 use std::alloc::Global;
-
-/// The store of one file, `t.orc`. It never fails, and leaves as it was what is read past the file's end.
-#[derive(Drop)]
-struct OneFile<'a> {
-    bytes: &'a [u8],
-}
-
-impl<'a> Store<RealWorld> for OneFile<'a> {
-    ghost reads = { λ _. None };
-
-    ghost fault_count = { λ _. 0 };
-
-    fn find(&mut self, name: &str) -> Result<Option<FileRef>, Failed> {
-        if name != "t.orc" {
-            return Ok(None);
-        }
-        Ok(Some(FileRef {
-            number: 0,
-            len: self.bytes.len() as u64,
-        }))
-    }
-
-    fn read_at(&mut self, file: FileRef, at: u64, into: &mut [u8]) -> Result<(), Failed>
-        requires in_range { at + length into.old ≤ file.len }
-        requires is_file { IsFile None file }
-        ensures bytes { OnOk result ((bytes : List ℕ) → HasBytes None file bytes
-            → into.new ≡ slice_range bytes at (at + length into.new)) }
-        ensures reads { OnOk result (Extended {A = FileRange} None None (range_of file at (length into.new) ∷ [])) }
-        ensures refused { OnErr result (◌≡◌ {A = Option (List FileRange)} None None) }
-        ensures cause { HasCause 0 0 result }
-    {
-        let start = at as usize;
-        if let Some(part) = self.bytes.get(start..start + into.len()) {
-            into.copy_from_slice(part);
-        }
-        Ok(())
-    }
-
-    fn faults(&self) -> u64 {
-        0
-    }
-}
+use test_stores::OneFile;
 
 /// A call: its words, its plan, which read of the plan and which write fail (0: none), and the file.
 #[derive(Drop)]
@@ -72,7 +26,7 @@ fn run_call(
     source: &mut MemorySource,
     sink: &mut MemorySink,
 ) -> u8 {
-    let mut store = OneFile { bytes: call.file };
+    let mut store = OneFile::new(alloc, call.file, usize::MAX);
     run::<RealWorld, _, _, _>(alloc, call.words, source, &mut store, sink).code()
 }
 
@@ -125,7 +79,7 @@ fn run_alone(
     sink: &mut MemorySink,
 ) -> Option<u8> {
     let options = options_of(alloc, words)?;
-    let mut store = OneFile { bytes: file };
+    let mut store = OneFile::new(alloc, file, usize::MAX);
     Some(alone::<RealWorld, _, _>(alloc, &options, plan, &mut store, sink).code())
 }
 
