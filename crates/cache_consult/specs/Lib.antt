@@ -1,2 +1,3 @@
 pub mod Consults
 pub mod Leaving
+pub mod LeavingLaws

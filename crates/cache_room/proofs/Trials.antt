@@ -24,7 +24,7 @@ use Rattle.pool_rule.specs.Seats.{granted_at, mark_at}
 use Rattle.buffer_pool.specs.declared.fault.Held.{Held}
 use Rattle.buffer_pool.specs.Made.{AreMade}
 use Rattle.cache_consult.specs.Consults.{Consults}
-use Rattle.cache_consult.specs.Leaving.{consult_only}
+use Rattle.cache_consult.specs.LeavingLaws.{consult_only}
 use Rattle.cache_eviction.specs.Evictions.{HeldSteps, OutSteps, Tries}
 use Rattle.cache_lookup.specs.Trails as Lists
 use Rattle.cache_lookup.specs.Trails.{events}
@@ -36,11 +36,12 @@ use Rattle.cache_placement.specs.Asking.{asked_by}
 use Rattle.cache_placement.specs.Free.{IsOrder}
 use Rattle.cache_placement.specs.Placements.{HasNoRoom, IsFilled, IsLost, IsPlacement}
 use Rattle.cache_room.specs.declared.wanted.Wanted.{Wanted}
-use Rattle.cache_room.specs.Quiet.{AreKnown, IsQuiet, consult_releases, consult_touches, quiet_consult, quiet_held, quiet_none, quiet_out, quiet_then}
+use Rattle.cache_room.specs.Quiet.{AreKnown, IsQuiet}
+use Rattle.cache_room.specs.QuietLaws.{consult_releases, consult_touches, quiet_consult, quiet_held, quiet_none, quiet_out, quiet_then}
 use Rattle.cache_room.specs.Rooms.{HasFree, HeadersTried, IfNoRoom, IsSetTried, IsWayFreed, MakesByTries, MakesWhereFull, RoomLeft, WaysTried, counted, unless_full}
 use Rattle.cache_room.specs.Seeking.{AsksOwn, HasNoBlock, IsSought, last_shown}
 use Rattle.cache_room.specs.SeekingLaws.{asks_then, consult_asks, consult_shows, held_asks, held_shows, last_shown-append, out_asks, seeks_only, shown_loads}
-use Rattle.cache_room.specs.Touchings.{place_touchings}
+use Rattle.cache_room.specs.TouchingLaws.{place_touchings}
 use Rattle.cache_room.specs.Tried.{IsTried, last_saw, releases}
 use Rattle.cache_room.specs.TriedLaws.{held_end, held_releases, out_end, out_released, out_releases, place_releases, releases-append, saw_away, saw_here, touch_front, tried_back, tried_front, tried_over}
 

@@ -1,7 +1,9 @@
 pub mod Tried
 pub mod TriedLaws
 pub mod Touchings
+pub mod TouchingLaws
 pub mod Quiet
+pub mod QuietLaws
 pub mod Seeking
 pub mod SeekingLaws
 pub mod Rooms

@@ -1,17 +1,12 @@
 -- How often a list of steps touches a header. A touch updates the header's last tick, and nothing else does.
 use Rattle.std.specs.Prelude.{◌≡◌, ℕ, ◌+◌, List, [], ◌∷◌, ◌++◌}
-use Rattle.std.proofs.Common.{refl, inl, inr, arith}
+use Rattle.std.proofs.Common.{arith}
 use Rattle.pool_rule.specs.declared.geometry.WordName.{WordName}
 use Rattle.pool_rule.specs.declared.geometry.WordName.TheVariants.{Arena, State, KeyOf, Touches, Last, Clock}
 use Rattle.pool_rule.specs.declared.word_step.WordStep.{WordStep}
 use Rattle.pool_rule.specs.declared.word_step.WordStep.TheVariants.{Looked, LookedAtCell, Missed, Granted, Returned}
 use Rattle.pool_rule.specs.declared.word_step.WordStep.TheVariants.{Opened, Named, Filled, Published, Counted}
 use Rattle.pool_rule.specs.declared.word_step.WordStep.TheVariants.{Uncounted, EvictBegun, HeaderReleased, Updated}
-use Rattle.cache_lookup.specs.LookUps.{IsLookStep}
-use Rattle.cache_lookup.specs.LookUps as look
-use Rattle.cache_lookup.specs.Trails.{Among}
-use Rattle.cache_placement.specs.Placements.{IsPlaceStep}
-use Rattle.cache_placement.specs.Placements as place
 
 abbrev pub touched_word : WordName → ℕ
 touched_word (Arena i) = 0
@@ -44,33 +39,3 @@ touchings (s ∷ ss) = touched_by s + touchings ss
 pub touchings-append : (xs ys : List WordStep) → touchings (xs ++ ys) ≡ touchings xs + touchings ys
 touchings-append [] ys = omega arith
 touchings-append (x ∷ xs) ys = let e = touchings-append xs ys in omega (arith, e)
-
--- neither a look-up nor a placement touches a header
-look_touched : (s : WordStep) → IsLookStep s → touched_by s ≡ 0
-look_touched s (look.load word found) = refl
-look_touched s (look.count header found) = refl
-look_touched s (look.back header found) = refl
-
-pub look_touchings : (ss : List WordStep) → ((s : WordStep) → Among s ss → IsLookStep s) → touchings ss ≡ 0
-look_touchings [] only = refl
-look_touchings (s ∷ ss) only =
-    let here = look_touched s (only s (inl refl)) in
-    let rest = look_touchings ss (λ t there. only t (inr there)) in
-    omega (arith, here, rest)
-
-place_touched : (s : WordStep) → IsPlaceStep s → touched_by s ≡ 0
-place_touched s (place.asked arena found) = refl
-place_touched s (place.missed word found) = refl
-place_touched s (place.granted b found) = refl
-place_touched s (place.returned b found) = refl
-place_touched s (place.opened header b cells) = refl
-place_touched s (place.named header b key found) = refl
-place_touched s (place.filled header b key done value found) = refl
-place_touched s (place.published header b key found) = refl
-
-pub place_touchings : (ss : List WordStep) → ((s : WordStep) → Among s ss → IsPlaceStep s) → touchings ss ≡ 0
-place_touchings [] only = refl
-place_touchings (s ∷ ss) only =
-    let here = place_touched s (only s (inl refl)) in
-    let rest = place_touchings ss (λ t there. only t (inr there)) in
-    omega (arith, here, rest)

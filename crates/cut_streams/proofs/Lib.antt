@@ -1,4 +1,4 @@
 mod Doing
 mod Visits
-mod Places
+mod Offsets
 mod Takes

@@ -13,15 +13,15 @@ use Rattle.range_cuts.specs.Cuts.{begun, cut_at, cuts_between, size_of}
 use Rattle.held_ranges.specs.Deeds.{Deed, Keys, room_left, swap_fails, swapped, swaps}
 use Rattle.held_ranges.specs.Moments.{Moment, Ran, keys_of}
 use Rattle.cut_streams.specs.declared.cursor.Cursor.{Cursor}
-use Rattle.cut_streams.specs.Streams.{IsReady, IsSound, ReadiesBy, SwapsBy, TakesBy, before_cut, key_behind, moved, next_bytes, next_key, place_in}
+use Rattle.cut_streams.specs.Streams.{IsReady, IsSound, ReadiesBy, SwapsBy, TakesBy, before_cut, key_behind, moved, next_bytes, next_key, offset_in}
 use Rattle.cut_streams.specs.Visits.{got_each, held_after}
 use Rattle.cut_streams.specs.Went.{Went}
 use Rattle.cut_streams.proofs.Doing.{went}
-use Rattle.cut_streams.proofs.Places.{begun_at, cut_between, mod_is, none_between, nothing_between, part_is, same_between, size_inside, size_small, stands, take_take}
+use Rattle.cut_streams.proofs.Offsets.{begun_at, cut_between, mod_is, none_between, nothing_between, part_is, same_between, size_inside, size_small, stands, take_take}
 
 module _ (chunk slot : ℕ) (c : Cursor) (keys : Keys) where
   -- the next cut, where the stream stands between two
-  next_is : 1 ≤ chunk → place_in chunk c ≡ 0 → key_behind chunk c.range c.taken ≡ next_key chunk c
+  next_is : 1 ≤ chunk → offset_in chunk c ≡ 0 → key_behind chunk c.range c.taken ≡ next_key chunk c
   next_is some none =
       let q : ℕ = c.taken / chunk in
       let is : c.taken ≡ q * chunk = omega (arith, stands chunk c.taken, none) in
@@ -29,7 +29,7 @@ module _ (chunk slot : ℕ) (c : Cursor) (keys : Keys) where
       let b : c.taken ≡ begun chunk c.taken * chunk = is ∙ ap (λ (k : ℕ). k * chunk) (sym a) in
       ap (λ (k : ℕ). key_behind chunk c.range k) b
 
-  got_one : 1 ≤ chunk → place_in chunk c ≡ 0
+  got_one : 1 ≤ chunk → offset_in chunk c ≡ 0
       → cuts_between c.range.at c.range.len chunk c.taken (c.taken + 1) ≡ cut_at c.range.at c.range.len chunk (begun chunk c.taken) ∷ []
   got_one some none =
       let q : ℕ = c.taken / chunk in
@@ -39,7 +39,7 @@ module _ (chunk slot : ℕ) (c : Cursor) (keys : Keys) where
       ∙ ap (λ (k : ℕ). cut_at c.range.at c.range.len chunk k ∷ []) (sym a)
 
   -- it was got, or its read failed
-  pub readies : (r : Result (Unit {0}) Failed) (ds : List Deed) (keys' : Keys) → 1 ≤ chunk → place_in chunk c ≡ 0
+  pub readies : (r : Result (Unit {0}) Failed) (ds : List Deed) (keys' : Keys) → 1 ≤ chunk → offset_in chunk c ≡ 0
       → SwapsBy slot (key_behind chunk c.range c.taken) keys r ds keys' → ReadiesBy chunk slot c keys r ds keys'
   readies (Ok x) ds keys' some none s =
       let e = next_is some none in
@@ -53,7 +53,7 @@ module _ (chunk slot : ℕ) (c : Cursor) (keys : Keys) where
       (s.0 ∙ ap (λ (k : Key). swap_fails slot k keys) e, s.1 ∙ ap (λ (k : Key). room_left slot k keys) e)
 
   -- the stream stands in it already
-  pub is_at_hand : (x : Unit {0}) → 1 ≤ chunk → 0 < place_in chunk c → ReadiesBy {T = Unit {0}} chunk slot c keys (Ok x) [] keys
+  pub is_at_hand : (x : Unit {0}) → 1 ≤ chunk → 0 < offset_in chunk c → ReadiesBy {T = Unit {0}} chunk slot c keys (Ok x) [] keys
   is_at_hand x some more =
       let cuts = none_between c.range.at c.range.len chunk c.taken some more in (
         ap (λ (cs : List (ℕ × ℕ)). got_each slot c.range.file cs keys) (sym cuts),
@@ -62,7 +62,7 @@ module _ (chunk slot : ℕ) (c : Cursor) (keys : Keys) where
 
   -- bytes of that cut were taken
   pub takes : (x : Unit {0}) (n : ℕ) (d : Cursor) (ds : List Deed) (keys' : Keys) → 1 ≤ chunk → 0 < n
-      → place_in chunk c + n ≤ size_of c.range.len chunk (before_cut chunk c) → c.taken ≤ c.range.len → d ≡ moved c n
+      → offset_in chunk c + n ≤ size_of c.range.len chunk (before_cut chunk c) → c.taken ≤ c.range.len → d ≡ moved c n
       → ReadiesBy {T = Unit {0}} chunk slot c keys (Ok x) ds keys' → TakesBy chunk slot c keys (Ok n) d ds keys'
   takes x n d ds keys' some more fits few is r =
       let small = size_small c.range.len chunk (before_cut chunk c) in
@@ -108,7 +108,7 @@ filled scratch rest room size is fits =
     take_take size room (scratch ++ rest) fits ∙ ap (λ (n : ℕ). take n (scratch ++ rest)) (sym is) ∙ take-append_seam scratch rest
 
 pub ready_got : (files : Option Files) (chunk : ℕ) (c : Cursor) (key : Key) (scratch more most : List ℕ) (room : ℕ) → key ≡ key_behind chunk c.range c.taken
-    → place_in chunk c ≡ 0 → length scratch ≡ key.len → key.len ≤ room → IsContentOf files (buffer_key key) scratch
+    → offset_in chunk c ≡ 0 → length scratch ≡ key.len → key.len ≤ room → IsContentOf files (buffer_key key) scratch
     → IsReady files chunk c (take room ((scratch ++ more) ++ most))
 ready_got files chunk c key scratch more most room is none len fits content =
     let rest : List ℕ = more ++ most in
@@ -127,7 +127,7 @@ sound_as files chunk file_len file_len' c d bytes bytes' f e b s =
 
 module _ (files : Option Files) (chunk file_len : ℕ) (c : Cursor) (bytes : List ℕ) where
   -- the stream stands in the same cut, or at its end
-  pub sound_after : (n : ℕ) → 1 ≤ chunk → place_in chunk c + n ≤ size_of c.range.len chunk (before_cut chunk c) → IsSound files chunk file_len c bytes
+  pub sound_after : (n : ℕ) → 1 ≤ chunk → offset_in chunk c + n ≤ size_of c.range.len chunk (before_cut chunk c) → IsSound files chunk file_len c bytes
       → IsReady files chunk c bytes → IsSound files chunk file_len (moved c n) bytes
   sound_after n some fits s ready =
       let small = size_small c.range.len chunk (before_cut chunk c) in
@@ -156,17 +156,17 @@ module _ (files : Option Files) (chunk file_len : ℕ) (c : Cursor) (bytes : Lis
       }
 
   -- the bytes are the file's
-  pub taken_are : (n : ℕ) (into file : List ℕ) → place_in chunk c + n ≤ size_of c.range.len chunk (before_cut chunk c)
-      → take n into ≡ take n (drop (place_in chunk c) bytes) → IsReady files chunk c bytes → told_bytes files c.range.file ≡ Some file
+  pub taken_are : (n : ℕ) (into file : List ℕ) → offset_in chunk c + n ≤ size_of c.range.len chunk (before_cut chunk c)
+      → take n into ≡ take n (drop (offset_in chunk c) bytes) → IsReady files chunk c bytes → told_bytes files c.range.file ≡ Some file
       → take n into ≡ slice_range file (c.range.at + c.taken) (c.range.at + c.taken + n)
   taken_are n into file fits copied ready told =
-      copied ∙ part_is bytes file c.range.at (before_cut chunk c) (place_in chunk c) n (size_of c.range.len chunk (before_cut chunk c)) c.taken
+      copied ∙ part_is bytes file c.range.at (before_cut chunk c) (offset_in chunk c) n (size_of c.range.len chunk (before_cut chunk c)) c.taken
       (omega (arith, stands chunk c.taken)) fits (ready file told)
 
 -- what is lent of a cut that was begun are the file's bytes
-pub lent_are : (files : Option Files) (chunk file_len : ℕ) (c : Cursor) (bytes lent file : List ℕ) → 0 < place_in chunk c
-    → place_in chunk c + length lent ≡ size_of c.range.len chunk (before_cut chunk c) → lent ≡ take (length lent) (drop (place_in chunk c) bytes)
+pub lent_are : (files : Option Files) (chunk file_len : ℕ) (c : Cursor) (bytes lent file : List ℕ) → 0 < offset_in chunk c
+    → offset_in chunk c + length lent ≡ size_of c.range.len chunk (before_cut chunk c) → lent ≡ take (length lent) (drop (offset_in chunk c) bytes)
     → IsSound files chunk file_len c bytes → told_bytes files c.range.file ≡ Some file → lent ≡ next_bytes c (length lent) file
 lent_are files chunk file_len c bytes lent file more is are s told =
-    are ∙ part_is bytes file c.range.at (before_cut chunk c) (place_in chunk c) (length lent) (size_of c.range.len chunk (before_cut chunk c)) c.taken
+    are ∙ part_is bytes file c.range.at (before_cut chunk c) (offset_in chunk c) (length lent) (size_of c.range.len chunk (before_cut chunk c)) c.taken
     (omega (arith, stands chunk c.taken)) (omega (arith, is)) (s.ready more file told)

@@ -56,8 +56,8 @@ pub record IsOpen (files : Option Files) (file_len : ℕ) (range : FileRange) : 
   pub is_file : HasLen files range.file file_len
 
 -- how many bytes of the cut in which the stream stands were taken, and where that cut begins
-abbrev pub place_in : ℕ → Cursor → ℕ
-place_in chunk c = c.taken % chunk
+abbrev pub offset_in : ℕ → Cursor → ℕ
+offset_in chunk c = c.taken % chunk
 
 abbrev pub before_cut : ℕ → Cursor → ℕ
 before_cut chunk c = c.taken - c.taken % chunk
@@ -74,7 +74,7 @@ pub record IsSound (files : Option Files) (chunk file_len : ℕ) (c : Cursor) (b
   pub room : length bytes ≡ chunk
   pub few : c.taken ≤ c.range.len
   pub lies : 0 < c.range.len → IsOpen files file_len c.range
-  pub ready : 0 < place_in chunk c → IsReady files chunk c bytes
+  pub ready : 0 < offset_in chunk c → IsReady files chunk c bytes
 
 abbrev pub IsSoundStream : Option Files → ℕ → CutStream → Type 0
 IsSoundStream files chunk s = IsSound files chunk s.file_len s.cursor s.bytes.items

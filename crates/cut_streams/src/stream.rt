@@ -3,7 +3,7 @@ ghost use Rattle.std.specs.Prelude.{◌≡◌, ◌<◌, ◌≤◌, ◌+◌, ◌^
 ghost use Rattle.outside.specs.Files.{range_of};
 ghost use Rattle.pool_model.specs.Content.{Files, told_bytes};
 ghost use Rattle.range_cuts.specs.Cuts.{size_of};
-ghost use Rattle.cut_streams.specs.Streams.{IsSoundStream, before_cut, bytes_in, closed, cursor_of, file_len_of, moved, next_bytes, opened, place_in};
+ghost use Rattle.cut_streams.specs.Streams.{IsSoundStream, before_cut, bytes_in, closed, cursor_of, file_len_of, moved, next_bytes, opened, offset_in};
 
 use crate::Cursor;
 use outside::{FileRange, FileRef, NoMemory};
@@ -18,9 +18,9 @@ pub struct CutStream {
 }
 
 /// How many bytes of the cut in which a stream stands were taken.
-pub(crate) fn place_of(cursor: Cursor, chunk: u32) -> u64
+pub(crate) fn offset_of(cursor: Cursor, chunk: u32) -> u64
     requires { 1 ≤ chunk }
-    ensures place { result ≡ place_in chunk cursor }
+    ensures offset { result ≡ offset_in chunk cursor }
     ensures inside { result ≤ cursor.taken }
     ensures below { result < chunk }
 {
@@ -93,17 +93,17 @@ impl CutStream {
         requires some { 1 ≤ chunk }
         requires few { (cursor_of self.now).taken ≤ (cursor_of self.now).range.len }
         requires room { length (bytes_in self.now) ≡ chunk }
-        ensures len { place_in chunk (cursor_of self.now) + length result.now
+        ensures len { offset_in chunk (cursor_of self.now) + length result.now
             ≡ size_of (cursor_of self.now).range.len chunk (before_cut chunk (cursor_of self.now)) }
         ensures inside { (cursor_of self.now).taken + length result.now ≤ (cursor_of self.now).range.len }
         ensures fits { (cursor_of self.now).taken + length result.now < 2 ^ 64 }
         ensures some { (cursor_of self.now).taken < (cursor_of self.now).range.len → 0 < length result.now }
-        ensures bytes { result.now ≡ take (length result.now) (drop (place_in chunk (cursor_of self.now)) (bytes_in self.now)) }
+        ensures bytes { result.now ≡ take (length result.now) (drop (offset_in chunk (cursor_of self.now)) (bytes_in self.now)) }
     {
-        let place = place_of(self.cursor, chunk);
-        let before = self.cursor.taken - place;
+        let offset = offset_of(self.cursor, chunk);
+        let before = self.cursor.taken - offset;
         let size = cut_size(self.cursor.range.len, chunk, before);
-        &self.bytes[place as usize..size as usize]
+        &self.bytes[offset as usize..size as usize]
     }
 
     /// Lends what is left of the cut in which the stream stands: nothing where it stands between two, of which the next wasn't got.
@@ -116,7 +116,7 @@ impl CutStream {
             → told_bytes files (cursor_of self.now).range.file ≡ Some file
             → result.now ≡ next_bytes (cursor_of self.now) (length result.now) file }
     {
-        if place_of(self.cursor, chunk) == 0 {
+        if offset_of(self.cursor, chunk) == 0 {
             return &[];
         }
         self.at_hand(chunk)
@@ -129,7 +129,7 @@ impl CutStream {
         requires room { length (bytes_in self.old) ≡ chunk }
         ensures fits { result ≤ count }
         ensures some { 0 < count → 0 < result }
-        ensures within { place_in chunk (cursor_of self.old) + result
+        ensures within { offset_in chunk (cursor_of self.old) + result
             ≤ size_of (cursor_of self.old).range.len chunk (before_cut chunk (cursor_of self.old)) }
         ensures cursor { cursor_of self.new ≡ moved (cursor_of self.old) result }
         ensures file { file_len_of self.new ≡ file_len_of self.old }
@@ -140,12 +140,12 @@ impl CutStream {
         len
     }
 
-    /// Copies so many bytes of the memory, from a place on, to the front of `into`.
-    pub(crate) fn copy(&self, place: usize, len: usize, into: &mut [u8])
-        requires inside { place + len ≤ length (bytes_in self.now) }
+    /// Copies so many bytes of the memory, from an offset on, to the front of `into`.
+    pub(crate) fn copy(&self, offset: usize, len: usize, into: &mut [u8])
+        requires inside { offset + len ≤ length (bytes_in self.now) }
         requires fits { len ≤ length into.old }
-        ensures { take len into.new ≡ take len (drop place (bytes_in self.now)) }
+        ensures { take len into.new ≡ take len (drop offset (bytes_in self.now)) }
     {
-        into[..len].copy_from_slice(&self.bytes[place..place + len]);
+        into[..len].copy_from_slice(&self.bytes[offset..offset + len]);
     }
 }

@@ -7,12 +7,12 @@ ghost use Rattle.buffer_pool.specs.Pools.{sizes_of};
 ghost use Rattle.range_cache.specs.Caches.{pool_of};
 ghost use Rattle.held_ranges.specs.Moments.{DeskHolds, keys_of, moment};
 ghost use Rattle.cut_streams.specs.Streams.{IsOpen, IsReady, IsSoundStream, ReadiesBy, SwapsBy, TakesBy};
-ghost use Rattle.cut_streams.specs.Streams.{bytes_in, cursor_of, file_len_of, key_behind, next_bytes, place_in};
+ghost use Rattle.cut_streams.specs.Streams.{bytes_in, cursor_of, file_len_of, key_behind, next_bytes, offset_in};
 ghost use Rattle.cut_streams.specs.Visits.{IsChunk};
 ghost use Rattle.cut_streams.specs.Went.{Went};
 
 use crate::CutStream;
-use crate::stream::{cut_size, place_of};
+use crate::stream::{cut_size, offset_of};
 use held_ranges::{Desk, Held, swap};
 use outside::{Failed, FileRange, FileRef, Store, World};
 use range_cache::Key;
@@ -57,7 +57,7 @@ fn next_cut<W: World, S: Store<W>>(
     ensures cursor { cursor_of stream.new ≡ cursor_of stream.old }
     ensures file { file_len_of stream.new ≡ file_len_of stream.old }
     ensures room { length (bytes_in stream.new) ≡ chunk }
-    ensures ready { place_in chunk (cursor_of stream.old) ≡ 0
+    ensures ready { offset_in chunk (cursor_of stream.old) ≡ 0
         → OnOk result (IsReady W.files chunk (cursor_of stream.old) (bytes_in stream.new)) }
     ensures cause { HasCause (S.fault_count desk.old.store.now) (S.fault_count desk.new.store.now) result }
 {
@@ -94,7 +94,7 @@ fn make_ready<W: World, S: Store<W>>(
     ensures ready { OnOk result (IsReady W.files chunk (cursor_of stream.old) (bytes_in stream.new)) }
     ensures cause { HasCause (S.fault_count desk.old.store.now) (S.fault_count desk.new.store.now) result }
 {
-    if place_of(stream.cursor, chunk) == 0 {
+    if offset_of(stream.cursor, chunk) == 0 {
         next_cut(desk, slots, slot, chunk, stream)
     } else {
         Ok(())
@@ -105,7 +105,7 @@ fn make_ready<W: World, S: Store<W>>(
 ///
 /// They are of one cut: the one in which the stream stands, or, where it stands between two, the next, which is got for its slot
 /// before, in place of the one that the slot holds. It answers 0 for a `count` above 0 exactly at the stream's end. The chunk is that
-/// of the cache. The bytes that were passed over lie in the stream's memory, from the place on where it stood in the cut.
+/// of the cache. The bytes that were passed over lie in the stream's memory, from the offset on at which it stood in the cut.
 ///
 /// `Failed` comes only where the store's count of faults rose in this call; then nothing was taken, and the slot holds nothing. No
 /// memory is taken.
@@ -127,9 +127,9 @@ pub fn skip_from<W: World, S: Store<W>>(
     ensures slots { length slots.new.items ≡ length slots.old.items }
     ensures sound { IsSoundStream W.files chunk stream.new }
     ensures room { IfOk result (λ n. n ≤ count) }
-    ensures within { IfOk result (λ n. place_in chunk (cursor_of stream.old) + n ≤ chunk) }
+    ensures within { IfOk result (λ n. offset_in chunk (cursor_of stream.old) + n ≤ chunk) }
     ensures bytes { IfOk result (λ n. (file : List ℕ) → told_bytes W.files (cursor_of stream.old).range.file ≡ Some file
-        → take n (drop (place_in chunk (cursor_of stream.old)) (bytes_in stream.new)) ≡ next_bytes (cursor_of stream.old) n file) }
+        → take n (drop (offset_in chunk (cursor_of stream.old)) (bytes_in stream.new)) ≡ next_bytes (cursor_of stream.old) n file) }
     ensures ends { IfOk result (λ n. 0 < count → n ≡ 0
         → (cursor_of stream.old).range.len ≤ (cursor_of stream.old).taken) }
     ensures cause { HasCause (S.fault_count desk.old.store.now) (S.fault_count desk.new.store.now) result }
@@ -183,10 +183,10 @@ pub fn take_from<W: World, S: Store<W>>(
     ensures totals_name { desk.new.totals.ghost_name ≡ desk.old.totals.ghost_name }
     ensures cache { desk.new.cache.now ≡ desk.old.cache.now }
 {
-    let place = place_of(stream.cursor, chunk) as usize;
+    let offset = offset_of(stream.cursor, chunk) as usize;
     match skip_from(desk, slots, slot, chunk, stream, into.len()) {
         Ok(len) => {
-            stream.copy(place, len, into);
+            stream.copy(offset, len, into);
             Ok(len)
         }
         Err(failed) => Err(failed),

@@ -2,11 +2,11 @@
 use Rattle.std.specs.Prelude.{◌≡◌, ◌≤◌, ℕ, List, [], ◌++◌, length, take, drop, Option, Some, Result, Ok, Err}
 use Rattle.fragment_plan.specs.declared.fragment.Fragment.{Fragment}
 use Rattle.fragment_plan.specs.Plan.{plan_of}
-use Rattle.data_path.specs.declared.plan_bytes.PlanError.{PlanError}
-use Rattle.data_path.specs.declared.plan_bytes.PlanError.TheVariants.{Fault, NoMemory}
+use Rattle.data_path.specs.declared.plan_bytes.PlanBytesError.{PlanBytesError}
+use Rattle.data_path.specs.declared.plan_bytes.PlanBytesError.TheVariants.{Fault, NoMemory}
 
 -- the answer is that a read failed
-abbrev pub IsFault : {T : Type 0} → Result T PlanError → Type 0
+abbrev pub IsFault : {T : Type 0} → Result T PlanBytesError → Type 0
 IsFault (Ok value) = ⊥
 IsFault (Err (Fault failed)) = Unit {0}
 IsFault (Err NoMemory) = ⊥

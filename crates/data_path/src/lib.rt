@@ -20,7 +20,7 @@ pub use folder::{FolderError, file_names};
 pub use inline::alone;
 pub use names::in_order;
 pub use own_lines::own_line;
-pub use plan_bytes::{PlanError, read_all};
+pub use plan_bytes::{PlanBytesError, read_all};
 pub use run::llapd;
 pub use status::Status;
 pub use writing::written;

@@ -8,7 +8,7 @@ use std::alloc::Global;
 
 /// Why a plan's bytes couldn't be read.
 #[derive(Clone, Copy, Debug, PartialEq, Eq)]
-pub enum PlanError {
+pub enum PlanBytesError {
     /// A read of the source failed.
     Fault(Failed),
     /// Memory was asked for, and refused.
@@ -22,7 +22,11 @@ const CHUNK: usize = 4096;
 ///
 /// `Fault` comes only where a read failed in this call. After an error the source may have given bytes,
 /// which are lost.
-pub fn read_all<P: Source>(alloc: Global, plan: &mut P, most: usize) -> Result<Bytes, PlanError>
+pub fn read_all<P: Source>(
+    alloc: Global,
+    plan: &mut P,
+    most: usize,
+) -> Result<Bytes, PlanBytesError>
     ensures few { IfOk result (λ bytes. length bytes ≤ most) }
     ensures read { IfOk result (λ bytes. GaveFront (P.left plan.old) (P.left plan.new) most bytes) }
     ensures cause { Cause (P.fault_count plan.old) (P.fault_count plan.new) (IsFault result) }
@@ -45,7 +49,7 @@ fn read_some<P: Source>(
     plan: &mut P,
     chunk: &mut [u8],
     bytes: &mut Vec<u8>,
-) -> Result<usize, PlanError>
+) -> Result<usize, PlanBytesError>
     requires { 0 < length chunk.old }
     ensures fits { IfOk result (λ n. n ≤ length chunk.new) }
     ensures len { IfOk result (λ n. vec_len bytes.new ≡ vec_len bytes.old + n) }
@@ -54,10 +58,10 @@ fn read_some<P: Source>(
 {
     let got = match plan.read(chunk) {
         Ok(got) => got,
-        Err(failed) => return Err(PlanError::Fault(failed)),
+        Err(failed) => return Err(PlanBytesError::Fault(failed)),
     };
     match bytes.extend_from_slice(&chunk[..got]) {
         Ok(()) => Ok(got),
-        Err(_) => Err(PlanError::NoMemory),
+        Err(_) => Err(PlanBytesError::NoMemory),
     }
 }

@@ -7,7 +7,7 @@ ghost use Rattle.data_path.specs.PlanBytes.{IsFault};
 ghost use Rattle.data_path.specs.Steps.{ChosenPlan, NotRead};
 
 use crate::inline::alone;
-use crate::plan_bytes::{PlanError, read_all};
+use crate::plan_bytes::{PlanBytesError, read_all};
 use crate::status::Status;
 use crate::writing::written;
 use command_line::laws::words_mean_one_thing;
@@ -25,14 +25,18 @@ const MOST_READ: usize = 1_048_577;
 /// source gives.
 ///
 /// `Fault` comes only where the source's faults rose, and no generated file is asked for.
-fn plan_for<P: Source>(alloc: Global, options: &Options, plan: &mut P) -> Result<Bytes, PlanError>
+fn plan_for<P: Source>(
+    alloc: Global,
+    options: &Options,
+    plan: &mut P,
+) -> Result<Bytes, PlanBytesError>
     ensures ok { IfOk result (ChosenPlan options.now (P.left plan.old) (P.left plan.new) (plan.new ≡ plan.old)) }
     ensures fault { IsFault result → NotRead options.now (P.fault_count plan.old) (P.fault_count plan.new) }
 {
     match options.generated {
         Some(number) => match generated_plan(alloc, number, options.rows) {
             Ok(bytes) => Ok(bytes),
-            Err(NoMemory) => Err(PlanError::NoMemory),
+            Err(NoMemory) => Err(PlanBytesError::NoMemory),
         },
         None => read_all(alloc, plan, MOST_READ),
     }
@@ -128,7 +132,7 @@ pub fn llapd<W: World, P: Source, S: Store<W> + Send + Drop, K: Sink, G: Gate + 
     };
     match plan_for(alloc, &options, plan) {
         Ok(bytes) => alone(alloc, &options, bytes.as_slice(), last, out),
-        Err(PlanError::Fault(_)) => Status::PlanFault,
-        Err(PlanError::NoMemory) => Status::NoMemory,
+        Err(PlanBytesError::Fault(_)) => Status::PlanFault,
+        Err(PlanBytesError::NoMemory) => Status::NoMemory,
     }
 }

@@ -110,7 +110,7 @@ const ROWS: [(&str, &str, &str); 15] = [
 
 fn holds(alloc: Global, digits: &str, plan: &str, text: &str) -> bool {
     match hex::decode(alloc, digits) {
-        Ok(file) => prints_whole(alloc, file.as_slice(), plan.as_bytes(), text),
+        Ok(file) => prints_whole(alloc, &[], file.as_slice(), plan.as_bytes(), text),
         Err(_) => false,
     }
 }

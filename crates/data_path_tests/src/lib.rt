@@ -20,6 +20,10 @@ mod plan_bytes;
 #[cfg(test)]
 mod plans;
 #[cfg(test)]
+mod sizes;
+#[cfg(test)]
 mod told;
+#[cfg(test)]
+mod top_call;
 #[cfg(test)]
 mod two_files;

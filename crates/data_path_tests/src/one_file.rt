@@ -1,58 +1,13 @@
 //! Calls of the top call over one file in memory, whose store tells nothing.
-ghost use Rattle.std.specs.Prelude.{◌≡◌, ◌≤◌, ◌+◌, ℕ, List, [], ◌∷◌, length, Option, None, OnOk, OnErr, slice_range};
 ghost use Rattle.std.specs.Prelude.{IfSome};
-ghost use Rattle.outside.specs.Cause.{HasCause};
 ghost use Rattle.command_line.specs.Options.{AreInRange};
-ghost use Rattle.outside.specs.Files.{HasBytes, IsFile, range_of};
-ghost use Rattle.outside.specs.Told.{Extended};
-ghost use Rattle.outside.specs.declared.file_ref.FileRange.{FileRange};
 
+use crate::top_call::{run, sink_of, source_of};
 use command_line::{Options, options};
-use data_path::{alone, llapd};
-use outside::{Bytes, Failed, FileRef, MemorySink, MemorySource, OpenGate, RealWorld, Store};
+use data_path::alone;
+use outside::{MemorySink, MemorySource, RealWorld};
 use std::alloc::Global;
-
-/// The store of one file, `t.orc`. It never fails, and leaves as it was what is read past the file's end.
-#[derive(Drop)]
-struct OneFile<'a> {
-    bytes: &'a [u8],
-}
-
-impl<'a> Store<RealWorld> for OneFile<'a> {
-    ghost reads = { λ _. None };
-
-    ghost fault_count = { λ _. 0 };
-
-    fn find(&mut self, name: &str) -> Result<Option<FileRef>, Failed> {
-        if name != "t.orc" {
-            return Ok(None);
-        }
-        Ok(Some(FileRef {
-            number: 0,
-            len: self.bytes.len() as u64,
-        }))
-    }
-
-    fn read_at(&mut self, file: FileRef, at: u64, into: &mut [u8]) -> Result<(), Failed>
-        requires in_range { at + length into.old ≤ file.len }
-        requires is_file { IsFile None file }
-        ensures bytes { OnOk result ((bytes : List ℕ) → HasBytes None file bytes
-            → into.new ≡ slice_range bytes at (at + length into.new)) }
-        ensures reads { OnOk result (Extended {A = FileRange} None None (range_of file at (length into.new) ∷ [])) }
-        ensures refused { OnErr result (◌≡◌ {A = Option (List FileRange)} None None) }
-        ensures cause { HasCause 0 0 result }
-    {
-        let start = at as usize;
-        if let Some(part) = self.bytes.get(start..start + into.len()) {
-            into.copy_from_slice(part);
-        }
-        Ok(())
-    }
-
-    fn faults(&self) -> u64 {
-        0
-    }
-}
+use test_stores::OneFile;
 
 /// A call: its words, its plan, which read of the plan and which write fail (0: none), and the file.
 #[derive(Drop)]
@@ -64,22 +19,15 @@ pub struct Call<'a> {
     pub file: &'a [u8],
 }
 
-fn source_of(alloc: Global, plan: &str, failing: u64) -> Option<MemorySource> {
-    let bytes = Bytes::new(plan.as_bytes().to_vec(alloc).ok()?);
-    Some(MemorySource::new(bytes, [failing].to_vec(alloc).ok()?))
-}
-
-fn sink_of(alloc: Global, failing: u64) -> Option<MemorySink> {
-    MemorySink::new(alloc, [failing].to_vec(alloc).ok()?, 2000).ok()
-}
-
-/// Makes the call over a store of its one file, and answers its exit status.
-fn run(alloc: Global, call: &Call<'_>, source: &mut MemorySource, sink: &mut MemorySink) -> u8 {
-    let mut store = OneFile { bytes: call.file };
-    let more = Vec::new(alloc);
-    llapd::<RealWorld, _, _, _, _>(
-        alloc, call.words, source, &mut store, more, sink, &OpenGate,
-    ).code()
+/// The exit status of the call over a store of its one file.
+fn run_call(
+    alloc: Global,
+    call: &Call<'_>,
+    source: &mut MemorySource,
+    sink: &mut MemorySink,
+) -> u8 {
+    let mut store = OneFile::new(alloc, call.file, usize::MAX);
+    run::<RealWorld, _, _, _>(alloc, call.words, source, &mut store, sink).code()
 }
 
 /// Whether the bytes are the line of the cache, which is shorter than this.
@@ -109,23 +57,29 @@ pub fn answers(alloc: Global, call: &Call<'_>, code: u8, text: &str) -> bool {
     let Some(mut sink) = sink_of(alloc, call.failing_write) else {
         return false;
     };
-    let answered = run(alloc, call, &mut source, &mut sink);
+    let answered = run_call(alloc, call, &mut source, &mut sink);
     answered == code && wrote(&sink, code, text)
 }
 
-fn no_words(alloc: Global) -> Option<Options>
+fn options_of(alloc: Global, words: &[&str]) -> Option<Options>
     ensures { IfSome result AreInRange }
 {
-    match options(alloc, &[]) {
+    match options(alloc, words) {
         Ok(options) => Some(options),
         Err(_) => None,
     }
 }
 
-/// The exit status of a plan over that file, run by `alone`.
-fn run_alone(alloc: Global, file: &[u8], plan: &[u8], sink: &mut MemorySink) -> Option<u8> {
-    let options = no_words(alloc)?;
-    let mut store = OneFile { bytes: file };
+/// The exit status of a plan over that file, run by `alone` with the options of those words.
+fn run_alone(
+    alloc: Global,
+    words: &[&str],
+    file: &[u8],
+    plan: &[u8],
+    sink: &mut MemorySink,
+) -> Option<u8> {
+    let options = options_of(alloc, words)?;
+    let mut store = OneFile::new(alloc, file, usize::MAX);
     Some(alone::<RealWorld, _, _>(alloc, &options, plan, &mut store, sink).code())
 }
 
@@ -133,17 +87,17 @@ fn run_alone(alloc: Global, file: &[u8], plan: &[u8], sink: &mut MemorySink) -> 
 pub fn prints(alloc: Global, file: &[u8], plan: &[u8], code: u8, text: &str) -> bool {
     match sink_of(alloc, 0) {
         Some(mut sink) => {
-            run_alone(alloc, file, plan, &mut sink) == Some(code) && wrote(&sink, code, text)
+            run_alone(alloc, &[], file, plan, &mut sink) == Some(code) && wrote(&sink, code, text)
         }
         None => false,
     }
 }
 
-/// Whether a plan over that file writes just that text, the cache's line included.
-pub fn prints_whole(alloc: Global, file: &[u8], plan: &[u8], text: &str) -> bool {
+/// Whether a plan over that file writes just that text with the options of those words, the cache's line included.
+pub fn prints_whole(alloc: Global, words: &[&str], file: &[u8], plan: &[u8], text: &str) -> bool {
     match sink_of(alloc, 0) {
         Some(mut sink) => {
-            run_alone(alloc, file, plan, &mut sink).is_some()
+            run_alone(alloc, words, file, plan, &mut sink).is_some()
                 && sink.written() == Some(text.as_bytes())
         }
         None => false,

@@ -1,6 +1,6 @@
 //! How a plan's bytes are read, and how many.
 use crate::one_file::{FIRST, prints};
-use data_path::{PlanError, read_all};
+use data_path::{PlanBytesError, read_all};
 use outside::{Bytes, Failed, MemorySource};
 use std::alloc::Global;
 
@@ -13,7 +13,10 @@ fn gives(alloc: Global, source: &mut MemorySource, most: usize, bytes: &[u8]) ->
 }
 
 fn fails(alloc: Global, source: &mut MemorySource) -> bool {
-    matches!(read_all(alloc, source, 3), Err(PlanError::Fault(Failed)))
+    matches!(
+        read_all(alloc, source, 3),
+        Err(PlanBytesError::Fault(Failed))
+    )
 }
 
 /// Whether reads of a source of five bytes, of which the third fails, give them in turn.

@@ -1,57 +1,11 @@
 //! The worked file in stores that tell what they hold and were asked for.
-ghost use Rattle.std.specs.Prelude.{◌≡◌, Some, IfSome};
-ghost use Rattle.data_path_tests.specs.Worked.{worked_files, told_are_files};
-
-use data_path::{Status, llapd};
-use outside::{
-    Bytes, FileRange, MemorySink, MemorySource, MemoryStore, Name, OpenGate, Sink, Source, Store,
-    SureSink, SureSource, SureStore, World,
-};
+use crate::top_call::{bytes_of, run, told_status};
+use data_path::Status;
+use outside::{FileRange, MemoryStore, SureSink, SureSource, SureStore};
 use std::alloc::Global;
+use test_stores::{WorkedWorld, worked_files};
 
-/// The world of one file, `t.orc`: a LONG column `x` of 100 rows, each of them -4.
-struct WorkedWorld;
-
-impl World for WorkedWorld {
-    ghost files = { Some worked_files };
-
-    ghost are_files = { λ told e. told_are_files told e };
-}
-
-/// The file's bytes.
-const WORKED_FILE: [u8; 68] = [
-    0x4F, 0x52, 0x43, 0x61, 0x00, 0x07, 0x0A, 0x06, 0x08, 0x01, 0x10, 0x01, 0x18, 0x03, 0x12, 0x02,
-    0x08, 0x00, 0x12, 0x02, 0x08, 0x00, 0x1A, 0x0A, 0x08, 0x03, 0x10, 0x00, 0x18, 0x03, 0x20, 0x10,
-    0x28, 0x64, 0x22, 0x08, 0x08, 0x0C, 0x12, 0x01, 0x01, 0x1A, 0x01, 0x78, 0x22, 0x02, 0x08, 0x04,
-    0x30, 0x64, 0x08, 0x1C, 0x10, 0x00, 0x22, 0x02, 0x00, 0x0C, 0x28, 0x00, 0x82, 0xF4, 0x03, 0x03,
-    0x4F, 0x52, 0x43, 0x11,
-];
-
-/// The files of the world.
-fn files(alloc: Global) -> Option<Vec<(Name, Bytes)>>
-    ensures { IfSome result (λ files. files.items ≡ worked_files) }
-{
-    let name = Name::new(String::from_str(alloc, "t.orc").ok()?);
-    let bytes = Bytes::new(WORKED_FILE.to_vec(alloc).ok()?);
-    let mut files = Vec::new(alloc);
-    files.push((name, bytes)).ok()?;
-    Some(files)
-}
-
-fn plan(alloc: Global) -> Option<Bytes> {
-    Some(Bytes::new(b"s sum x from t.orc".as_slice().to_vec(alloc).ok()?))
-}
-
-/// What the call over these objects answers.
-fn sum_over<P: Source + Drop, S: Store<WorkedWorld> + Send + Drop, K: Sink>(
-    alloc: Global,
-    mut plan: P,
-    store: &mut S,
-    sink: &mut K,
-) -> Status {
-    let more = Vec::new(alloc);
-    llapd::<WorkedWorld, _, _, _, _>(alloc, &[], &mut plan, store, more, sink, &OpenGate)
-}
+const PLAN: &str = "s sum x from t.orc";
 
 /// The reads of the worked file: its end, its footer, its stripe's footer, and the column's DATA stream.
 const READS: [FileRange; 4] = [
@@ -80,28 +34,59 @@ const READS: [FileRange; 4] = [
 /// What is printed of the worked file.
 const SUM: &str = "s sum -400\ncache hit 0 filled 4 bypass 0 evicted 0 moved 0\n";
 
+/// A sure store of that file.
+fn sure_store(alloc: Global) -> Option<SureStore<WorkedWorld>> {
+    SureStore::new(alloc, worked_files(alloc)?, 8).ok()
+}
+
+/// Whether the call over that store and sure forms of the plan's source and the sink ends with the sum, and tells its line.
+fn sums_surely(alloc: Global, store: &mut SureStore<WorkedWorld>) -> bool {
+    let Some(plan) = bytes_of(alloc, PLAN) else {
+        return false;
+    };
+    let mut source = SureSource::new(plan);
+    match SureSink::new(alloc, 128) {
+        Ok(mut sink) => {
+            run(alloc, &[], &mut source, store, &mut sink) == Status::Done
+                && sink.written() == Some(SUM.as_bytes())
+        }
+        Err(_) => false,
+    }
+}
+
 /// Whether the sure forms end with the sum, and tell its line and its four reads.
-fn sure_forms_sum(alloc: Global) -> Option<bool> {
-    let mut store = SureStore::<WorkedWorld>::new(alloc, files(alloc)?, 8).ok()?;
-    let mut sink = SureSink::new(alloc, 128).ok()?;
-    let status = sum_over(alloc, SureSource::new(plan(alloc)?), &mut store, &mut sink);
-    let told = sink.written() == Some(SUM.as_bytes());
-    Some(status == Status::Done && told && store.logged() == READS.get(..))
+fn sure_forms_sum(alloc: Global) -> bool {
+    match sure_store(alloc) {
+        Some(mut store) => sums_surely(alloc, &mut store) && store.logged() == READS.get(..),
+        None => false,
+    }
 }
 
-/// Whether a call over a store whose call of that number fails (0: none) writes that text, and tells the first so many reads.
-fn memory_forms_tell(alloc: Global, failing: u64, text: &str, reads: usize) -> Option<bool> {
-    let fails = [failing].to_vec(alloc).ok()?;
-    let mut store = MemoryStore::<WorkedWorld>::new(alloc, files(alloc)?, fails, 8).ok()?;
-    let mut sink = MemorySink::new(alloc, Vec::new(alloc), 128).ok()?;
-    let source = MemorySource::new(plan(alloc)?, Vec::new(alloc));
-    let done = sum_over(alloc, source, &mut store, &mut sink) == Status::Done;
-    let told = sink.written() == Some(text.as_bytes()) && store.logged() == READS.get(..reads);
-    Some(told && done == (failing == 0))
+/// A store of that file, whose call of that number fails (0: none).
+fn store_of(alloc: Global, failing: u64) -> Option<MemoryStore<WorkedWorld>> {
+    let files = worked_files(alloc)?;
+    match [failing].to_vec(alloc) {
+        Ok(fails) => MemoryStore::new(alloc, files, fails, 8).ok(),
+        Err(_) => None,
+    }
 }
 
-/// The store's failing call, from 1 on, what is printed, and how many reads were told before it.
-const FAILING: [(u64, &str, usize); 5] = [
+/// Whether a call over a store whose call of that number fails (0: none) writes that text, and tells the first so many reads. Its exit
+/// status is 1 where a call failed.
+fn memory_forms_tell(alloc: Global, failing: u64, text: &str, reads: usize) -> bool {
+    let code = if failing == 0 { 0 } else { 1 };
+    match store_of(alloc, failing) {
+        Some(mut store) => {
+            told_status(alloc, PLAN, &mut store, text) == Some(code)
+                && store.logged() == READS.get(..reads)
+        }
+        None => false,
+    }
+}
+
+/// The store's failing call, from 1 on (0: none), what is printed, and how many reads were told before it.
+const FAILING: [(u64, &str, usize); 6] = [
+    (0, SUM, 4),
     (
         1,
         "s failed read fault\ncache hit 0 filled 0 bypass 0 evicted 0 moved 0\n",
@@ -129,9 +114,9 @@ const FAILING: [(u64, &str, usize); 5] = [
     ),
 ];
 
-fn each_failing_call_is_told(alloc: Global) -> bool {
+fn each_call_is_told(alloc: Global) -> bool {
     for (call, text, reads) in &FAILING {
-        if memory_forms_tell(alloc, *call, text, *reads) != Some(true) {
+        if !memory_forms_tell(alloc, *call, text, *reads) {
             return false;
         }
     }
@@ -140,11 +125,10 @@ fn each_failing_call_is_told(alloc: Global) -> bool {
 
 #[test]
 fn a_told_file_is_summed_with_four_reads(rt: HostRuntime) {
-    assert!(rt; sure_forms_sum(rt.alloc()) == Some(true));
-    assert!(rt; memory_forms_tell(rt.alloc(), 0, SUM, 4) == Some(true));
+    assert!(rt; sure_forms_sum(rt.alloc()));
 }
 
 #[test]
-fn a_failing_store_gives_a_read_fault(rt: HostRuntime) {
-    assert!(rt; each_failing_call_is_told(rt.alloc()));
+fn memory_forms_sum_until_a_call_fails(rt: HostRuntime) {
+    assert!(rt; each_call_is_told(rt.alloc()));
 }

@@ -2,8 +2,8 @@
 ghost use Rattle.std.specs.Prelude.{◌≡◌, Some, IfSome};
 ghost use Rattle.data_path_tests.specs.Worked.{two_files, told_are_two};
 
-use data_path::llapd;
-use outside::{Bytes, MemorySink, MemorySource, MemoryStore, Name, OpenGate, World};
+use crate::top_call::told_status;
+use outside::{Bytes, MemoryStore, Name, World};
 use std::alloc::Global;
 
 /// The world of two files, `a.orc` and `b.orc`: 100 rows of -4, and the numbers from 50 down to -49.
@@ -49,24 +49,31 @@ fn files(alloc: Global) -> Option<Vec<(Name, Bytes)>>
     Some(files)
 }
 
+/// A store of them, whose call of that number fails (0: none).
+fn store_of(alloc: Global, failing: u64) -> Option<MemoryStore<TwoWorld>> {
+    let files = files(alloc)?;
+    match [failing].to_vec(alloc) {
+        Ok(fails) => MemoryStore::new(alloc, files, fails, 16).ok(),
+        Err(_) => None,
+    }
+}
+
+/// Whether just so many reads were told.
+fn has_told(store: &MemoryStore<TwoWorld>, reads: usize) -> bool {
+    match store.logged() {
+        Some(told) => told.len() == reads,
+        None => false,
+    }
+}
+
 /// Whether a plan over a store whose call of that number fails (0: none) writes that text and makes so many reads.
-fn tells(alloc: Global, plan: &str, failing: u64, text: &str, reads: usize) -> Option<bool> {
-    let fails = [failing].to_vec(alloc).ok()?;
-    let mut store = MemoryStore::<TwoWorld>::new(alloc, files(alloc)?, fails, 16).ok()?;
-    let mut sink = MemorySink::new(alloc, Vec::new(alloc), 200).ok()?;
-    let bytes = Bytes::new(plan.as_bytes().to_vec(alloc).ok()?);
-    let mut source = MemorySource::new(bytes, Vec::new(alloc));
-    let more = Vec::new(alloc);
-    llapd::<TwoWorld, _, _, _, _>(
-        alloc,
-        &[],
-        &mut source,
-        &mut store,
-        more,
-        &mut sink,
-        &OpenGate,
-    );
-    Some(sink.written() == Some(text.as_bytes()) && store.logged()?.len() == reads)
+fn tells(alloc: Global, plan: &str, failing: u64, text: &str, reads: usize) -> bool {
+    match store_of(alloc, failing) {
+        Some(mut store) => {
+            told_status(alloc, plan, &mut store, text).is_some() && has_told(&store, reads)
+        }
+        None => false,
+    }
 }
 
 const SUMS: &str = "s sum x from a.orc\nt sum x from b.orc\n";
@@ -113,7 +120,7 @@ const ROWS: [(&str, u64, &str, usize); 6] = [
 
 fn all_tell(alloc: Global) -> bool {
     for (plan, failing, text, reads) in &ROWS {
-        if tells(alloc, plan, *failing, text, *reads) != Some(true) {
+        if !tells(alloc, plan, *failing, text, *reads) {
             return false;
         }
     }

@@ -32,9 +32,11 @@ use Rattle.cache_placement.specs.Free.{IsFirstFree, IsOrder, NoneFree}
 use Rattle.cache_placement.specs.Placements.{HasNoRoom, IsArenaRaced, IsHeaderRaced, IsPlaceStep, IsPlacement}
 use Rattle.cache_placement.specs.Placements as placement
 use Rattle.cache_room.specs.declared.wanted.Wanted.{Wanted}
-use Rattle.cache_room.specs.Quiet.{IsQuiet, quiet_then, quiet_updated, touch_before, touch_right}
+use Rattle.cache_room.specs.Quiet.{IsQuiet}
+use Rattle.cache_room.specs.QuietLaws.{quiet_then, quiet_updated, touch_before, touch_right}
 use Rattle.cache_room.specs.Rooms.{IfNoRoom, IsRoom, IsSetTried, IsWayFreed, counted, in_free, in_freed, in_none}
-use Rattle.cache_room.specs.Touchings.{look_touchings, place_touchings, touchings-append}
+use Rattle.cache_room.specs.TouchingLaws.{look_touchings, place_touchings}
+use Rattle.cache_room.specs.Touchings.{touchings-append}
 use Rattle.cache_room.specs.Tried.{IsTried, last_saw, releases}
 use Rattle.cache_room.specs.TriedLaws.{last_saw-back, no_releases, place_releases, releases-append, tried_back, tried_front}
 use Rattle.range_cache.specs.declared.ranged.Grip.TheVariants as grip

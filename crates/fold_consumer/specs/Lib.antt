@@ -1,3 +1,4 @@
 pub mod Pieces
 pub mod Folding
+pub mod FoldingLaws
 pub mod Laws

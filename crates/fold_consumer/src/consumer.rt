@@ -97,7 +97,8 @@ impl<'a> Consumer for FoldConsumer<'a> {
     ghost use Rattle.orc_streams.specs.declared.layout.ReadColumn.{ReadColumn};
     ghost use Rattle.orc_rows.specs.Given.{kinds_in};
     ghost use Rattle.fragment_meaning.specs.ScanColumns.{by_number};
-    ghost use Rattle.fold_consumer.specs.Folding.{Ate, Ate-nothing, Ate-on};
+    ghost use Rattle.fold_consumer.specs.Folding.{Ate};
+    ghost use Rattle.fold_consumer.specs.FoldingLaws.{Ate-nothing, Ate-on};
 
     ghost kinds = { λ c. kinds_in (by_number c.named) };
 

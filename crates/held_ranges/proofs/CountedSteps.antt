@@ -20,7 +20,8 @@ use Rattle.cache_lookup.specs.LookUps.{IsLookStep}
 use Rattle.cache_lookup.specs.LookUps as look
 use Rattle.cache_lookup.specs.Trails.{Among}
 use Rattle.cache_placement.specs.Publications.{publications, publications-append}
-use Rattle.cache_room.specs.Touchings.{look_touchings, touchings, touchings-append}
+use Rattle.cache_room.specs.TouchingLaws.{look_touchings}
+use Rattle.cache_room.specs.Touchings.{touchings, touchings-append}
 use Rattle.cache_room.specs.Tried.{released_by, releases}
 use Rattle.evicting_fetch.specs.Fetches.{touched_for}
 use Rattle.cache_room.specs.TriedLaws.{releases-append}

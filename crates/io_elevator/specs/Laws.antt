@@ -21,7 +21,7 @@ use Rattle.cut_streams.specs.Streams.{moved}
 use Rattle.io_elevator.specs.declared.elevator.Elevator.{Elevator}
 use Rattle.io_elevator.specs.Books.{Fits, cursor_at}
 use Rattle.io_elevator.specs.Elevator.{Did, as_named, books_of, desk_of, moment_of, rest_of}
-use Rattle.io_elevator.specs.Fitting.{fits_join, fits_moved, fits_sum, read_acts_join, reads_keep, take_acts_join}
+use Rattle.io_elevator.specs.FittingLaws.{fits_join, fits_moved, fits_sum, read_acts_join, reads_keep, take_acts_join}
 use Rattle.io_elevator.specs.Sound.{rest_at}
 
 pub same_desk : {W S : Type 0} (d : Desk W S) → SameDesk d d

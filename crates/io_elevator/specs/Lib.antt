@@ -1,6 +1,7 @@
 pub mod Books
-pub mod Fitting
+pub mod FittingLaws
 pub mod Sound
+pub mod SoundLaws
 pub mod Scratch
 pub mod Elevator
 pub mod Laws

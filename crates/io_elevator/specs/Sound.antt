@@ -1,20 +1,12 @@
 -- What holds of an elevator at every moment: of its seat and slots, and of its streams. Source: this project's own.
-use Rattle.std.specs.Prelude.{◌≡◌, ◌<◌, ℕ, ◌+◌, List, length, map, Option, None, Some, option_map, slice_index_or, slice_range}
-use Rattle.std.proofs.Props.{props}
+use Rattle.std.specs.Prelude.{◌≡◌, ◌<◌, ℕ, ◌+◌, List, length, map, Option, option_map, slice_index_or, slice_range}
 use Rattle.outside.specs.Files.{bytes_of}
 use Rattle.pool_model.specs.Content.{Files}
 use Rattle.pool_rule.specs.declared.geometry.Geometry.{Geometry}
-use Rattle.buffer_pool.specs.declared.pool.Pool.{Pool}
 use Rattle.buffer_pool.specs.declared.seat.PoolSeat.{PoolSeat}
-use Rattle.buffer_pool.specs.declared.token.Pin.{Pin}
-use Rattle.buffer_pool.specs.Pools.{IsPinOf, IsSeatOf}
-use Rattle.range_cache.specs.declared.ranged.Grip.{Grip}
-use Rattle.range_cache.specs.declared.ranged.Grip.TheVariants as grip
 use Rattle.range_cache.specs.declared.cache.Cache.{Cache}
 use Rattle.range_cache.specs.Caches.{pool_of}
-use Rattle.range_cache.specs.Ranges.{IsGripOf}
-use Rattle.held_ranges.specs.declared.held.Held.{Held}
-use Rattle.held_ranges.specs.Moments.{AreEmpty, IsHeld, IsHolding, Slots}
+use Rattle.held_ranges.specs.Moments.{AreEmpty, IsHolding, Slots}
 use Rattle.cut_streams.specs.declared.cursor.Cursor.{Cursor}
 use Rattle.cut_streams.specs.Streams.{closed}
 use Rattle.cut_streams.specs.Visits.{chunk_of}
@@ -48,29 +40,6 @@ pub record IsFresh (g : Geometry) (slots : Slots) (streams : List StreamOf) : Ty
   pub streams_are : length streams ≡ 64
   pub cut : AreCutBy (chunk_of g) streams
 
--- ---- what a seat holds has one proof at most
-
-module _ {W : Type 0} (pool : Pool W) (seat : PoolSeat W) where
-  pin_prop : (pin : Pin) → IsProp (IsPinOf pool seat pin)
-  pin_prop pin = hlevel props
-
-  grip_prop : (g : Grip) → IsProp (IsGripOf pool seat g)
-  grip_prop (grip.Pin pin) = pin_prop pin
-  grip_prop (grip.Bypass key) = hlevel props
-
-  held_prop : (h : Option Held) → IsProp (IsHeld pool seat h)
-  held_prop None = hlevel props
-  held_prop (Some held) = hlevel (props, grip_prop)
-
-  seat_prop : IsProp (IsSeatOf pool seat)
-  seat_prop = hlevel props
-
-  holding_prop : (slots : Slots) → IsProp (IsHolding pool seat slots)
-  holding_prop slots = hlevel (props, held_prop, seat_prop)
-
 -- the seat is that cache's, and has just the pins of what those slots hold
 abbrev pub AreHeld : {W : Type 0} → Cache W → PoolSeat W → Slots → Type 0
 AreHeld cache seat slots = IsHolding (pool_of cache) seat slots
-
-pub held_once : {W : Type 0} (cache : Cache W) (seat : PoolSeat W) (slots : Slots) → IsProp (AreHeld cache seat slots)
-held_once cache seat slots = holding_prop (pool_of cache) seat slots

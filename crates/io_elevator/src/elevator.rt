@@ -4,7 +4,8 @@ ghost use Rattle.buffer_pool.specs.Pools.{sizes_of};
 ghost use Rattle.range_cache.specs.Caches.{pool_of};
 ghost use Rattle.evicting_fetch.specs.Evictors.{IsEvictorOf};
 ghost use Rattle.cut_streams.specs.Visits.{IsChunk};
-ghost use Rattle.io_elevator.specs.Sound.{AreCutBy, AreHeld, held_once};
+ghost use Rattle.io_elevator.specs.Sound.{AreCutBy, AreHeld};
+ghost use Rattle.io_elevator.specs.SoundLaws.{held_once};
 
 use crate::Scratch;
 use crate::scratch::{chunk_for, close_scratch, skip_at, take_at};

@@ -3,7 +3,7 @@ use Rattle.pool_rule.specs.declared.geometry.Geometry.{Geometry}
 use Rattle.pool_rule.specs.Layout.{headers_of}
 use Rattle.buffer_pool.specs.Pools.{seat_id, sizes_of, view}
 use Rattle.cache_consult.specs.Consults.{Consults}
-use Rattle.cache_consult.specs.Leaving.{consult_granted, consult_nothing}
+use Rattle.cache_consult.specs.LeavingLaws.{consult_granted, consult_nothing}
 use Rattle.cache_consult.proofs.Learning.{one_more}
 use Rattle.cache_consult.proofs.consulting.consult.Goals as goal
 

@@ -4,7 +4,7 @@ use Rattle.cache_room.specs.Searches.{SearchesIf, is_no_room}
 use Rattle.cache_room.specs.SearchLaws.{ranked_free, ranked_freed, ranked_full}
 use Rattle.buffer_pool.specs.Pools.{seat_id, sizes_of, view}
 use Rattle.cache_room.specs.declared.wanted.Wanted.{Wanted}
-use Rattle.cache_room.specs.Quiet.{known_later}
+use Rattle.cache_room.specs.QuietLaws.{known_later}
 use Rattle.cache_room.specs.Rooms.{MakesWhereFull, in_free, in_freed, in_none}
 use Rattle.cache_room.proofs.placing.place_or_evict.Goals as goal
 

@@ -26,7 +26,7 @@ use Rattle.cache_placement.specs.declared.why.Placed.TheVariants as placed
 use Rattle.cache_placement.specs.declared.why.Why.TheVariants.{Busy}
 use Rattle.cache_placement.specs.Free.{IsOrder}
 use Rattle.cache_placement.specs.Placements.{HoldsPlaced}
-use Rattle.cache_room.specs.Quiet.{are_known, no_pin_later, quiet_updated, touch_before}
+use Rattle.cache_room.specs.QuietLaws.{are_known, no_pin_later, quiet_updated, touch_before}
 use Rattle.cache_room.specs.Rooms.{IsRoom}
 use Rattle.range_cache.specs.declared.ranged.Grip.TheVariants as grip
 use Rattle.range_cache.specs.declared.ranged.How.{How}

@@ -6,4 +6,4 @@ use Rattle.cut_streams.proofs.stream.CutStream.lent.Goals as goal
 pub returns-clause-bytes : goal.returns-clause-bytes
 returns-clause-bytes c = λ files file sound told.
     lent_are files c.args.chunk (file_len_of c.args.self.now) (cursor_of c.args.self.now) (bytes_in c.args.self.now) c.at_hand.result.now file
-    (omega (arith, c.place_of.ensures.place)) c.at_hand.ensures.len c.at_hand.ensures.bytes sound told
+    (omega (arith, c.offset_of.ensures.offset)) c.at_hand.ensures.len c.at_hand.ensures.bytes sound told

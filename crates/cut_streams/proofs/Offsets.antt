@@ -13,7 +13,7 @@ div_is n d q some low high =
     let b = nat.div_below n d (q + 1) (omega (arith, some)) (omega (arith, e, high)) in
     omega (arith, a, b)
 
--- so many cuts begin below a place in the cut of number q, its last byte included, and below its first
+-- so many cuts begin below an offset in the cut of number q, its last byte included, and below its first
 pub begun_in : (d q r t : ℕ) → 1 ≤ d → t ≡ q * d + r → 1 ≤ r → r ≤ d → begun d t ≡ q + 1
 begun_in d q r t some is low high =
     let e : (q + 1) * d ≡ q * d + d = omega arith in
