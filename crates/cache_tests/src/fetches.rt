@@ -4,11 +4,11 @@ ghost use Rattle.pool_rule.specs.Seats.{HasNothing};
 ghost use Rattle.buffer_pool.specs.Pools.{IsSameSeat, IsSeatOf, sizes_of, view};
 ghost use Rattle.range_cache.specs.Caches.{pool_of};
 
-use crate::pattern::{Pattern, byte_at};
 use buffer_pool::{WordName, look};
 use outside::{FileRef, RealWorld};
 use range_cache::{Cache, Geometry, How, Key, PoolSeat, Why, fetch};
 use std::alloc::Global;
+use test_stores::{Pattern, byte_at};
 
 const FILE: FileRef = FileRef {
     number: 0,
@@ -129,11 +129,7 @@ fn are_got(
 fn runs(alloc: Global, len: u32, failing: u64, rows: &[(u8, u64)], reads: u64, word: u64) -> bool
     requires { (64 ≤ len) × (len ≤ 2048) }
 {
-    let mut store = Pattern {
-        reads: 0,
-        failing,
-        faults: 0,
-    };
+    let mut store = Pattern::new(failing);
     match Cache::<RealWorld>::create(alloc, GEOMETRY, 0, 1) {
         Ok((cache, mut seat)) => {
             are_got(&cache, &mut seat, &mut store, len, rows)

@@ -3,5 +3,3 @@
 
 #[cfg(test)]
 mod fetches;
-#[cfg(test)]
-mod pattern;

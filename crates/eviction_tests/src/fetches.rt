@@ -5,12 +5,12 @@ ghost use Rattle.buffer_pool.specs.Pools.{IsSameSeat, IsSeatOf, sizes_of, view};
 ghost use Rattle.range_cache.specs.Caches.{pool_of};
 ghost use Rattle.evicting_fetch.specs.Evictors.{IsEvictorOf};
 
-use crate::pattern::Pattern;
 use buffer_pool::{WordName, look};
 use evicting_fetch::{Evictor, fetch};
 use outside::{FileRef, RealWorld};
 use range_cache::{Cache, Geometry, How, Key, PoolSeat, Why};
 use std::alloc::Global;
+use test_stores::Pattern;
 
 pub(crate) const FILE: FileRef = FileRef {
     number: 0,
@@ -129,11 +129,7 @@ fn runs(
 ) -> bool
     requires { (64 ≤ len) × (len ≤ 2048) }
 {
-    let mut store = Pattern {
-        reads: 0,
-        failing,
-        faults: 0,
-    };
+    let mut store = Pattern::new(failing);
     let geometry = Geometry {
         min_block: 64,
         arenas,

@@ -6,12 +6,12 @@ ghost use Rattle.range_cache.specs.Caches.{pool_of};
 ghost use Rattle.evicting_fetch.specs.Evictors.{IsEvictorOf};
 
 use crate::fetches::{FILE, FILLED, GEOMETRY, get};
-use crate::pattern::Pattern;
 use buffer_pool::{pin, split, unpin};
 use evicting_fetch::{Evictor, fetch};
 use outside::RealWorld;
 use range_cache::{Cache, How, Key, PoolSeat, Why};
 use std::alloc::Global;
+use test_stores::Pattern;
 
 /// The key of a range of one smallest block.
 fn small(number: u8) -> Key
@@ -130,11 +130,7 @@ fn fills_the_set(
 }
 
 fn a_held_set_is_full(alloc: Global) -> bool {
-    let mut store = Pattern {
-        reads: 0,
-        failing: 0,
-        faults: 0,
-    };
+    let mut store = Pattern::new(0);
     let Ok((cache, mut seat)) = Cache::<RealWorld>::create(alloc, GEOMETRY, 0, 10) else {
         return false;
     };

@@ -6,12 +6,12 @@ ghost use Rattle.range_cache.specs.Caches.{pool_of};
 ghost use Rattle.evicting_fetch.specs.Evictors.{IsEvictorOf};
 
 use crate::fetches::{FILLED, GEOMETRY, NO_ROOM, get};
-use crate::pattern::Pattern;
 use buffer_pool::{WordName, look, pin, split, unpin};
 use evicting_fetch::Evictor;
 use outside::RealWorld;
 use range_cache::{Cache, Key, PoolSeat};
 use std::alloc::Global;
+use test_stores::Pattern;
 
 /// The key of a range of a quarter of the arena.
 fn quarter(number: u8) -> Key
@@ -88,11 +88,7 @@ fn waits_for_the_held(
 }
 
 fn held_ranges_stay(alloc: Global) -> bool {
-    let mut store = Pattern {
-        reads: 0,
-        failing: 0,
-        faults: 0,
-    };
+    let mut store = Pattern::new(0);
     let Ok((cache, mut seat)) = Cache::<RealWorld>::create(alloc, GEOMETRY, 0, 3) else {
         return false;
     };

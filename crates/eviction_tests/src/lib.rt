@@ -8,8 +8,6 @@ mod full;
 #[cfg(test)]
 mod held;
 #[cfg(test)]
-mod pattern;
-#[cfg(test)]
 mod plain;
 #[cfg(test)]
 mod random;

@@ -8,7 +8,6 @@ ghost use Rattle.range_cache.specs.Ranges.{IsRanged, Leaves};
 ghost use Rattle.evicting_fetch.specs.Evictors.{IsEvictorOf};
 
 use crate::fetches::{FILE, GEOMETRY, HIT, told};
-use crate::pattern::Pattern;
 use crate::plain::{Plain, evicted_so_far, new_plain, plain_drop, plain_get, was_used};
 use buffer_pool::split;
 use evicting_fetch::{Evictor, fetch};
@@ -17,6 +16,7 @@ use rand_core::{Rng, SeedableRng};
 use rand_xoshiro::SplitMix64;
 use range_cache::{Cache, Key, PoolSeat, Ranged};
 use std::alloc::Global;
+use test_stores::Pattern;
 
 /// The number of a range, of sixteen. The low half of them is drawn three times as often as the other.
 fn number_of(drawn: u64) -> u8
@@ -187,11 +187,7 @@ fn outer(
 }
 
 fn both_agree(alloc: Global, half_life: u64) -> bool {
-    let mut store = Pattern {
-        reads: 0,
-        failing: 0,
-        faults: 0,
-    };
+    let mut store = Pattern::new(0);
     let Ok((cache, mut seat)) = Cache::<RealWorld>::create(alloc, GEOMETRY, half_life, 3) else {
         return false;
     };
