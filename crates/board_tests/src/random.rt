@@ -142,16 +142,8 @@ fn grew(events: &[BoardEvent], before: usize, wanted: &Wanted) -> bool {
 }
 
 /// Makes a call, and says its answer where it, the events and all that can be asked of the board are as the replay has them.
-fn plays(
-    alloc: Global,
-    board: &mut Untold,
-    plan: &Plan,
-    sizes: (u32, u32),
-    seed: &mut u64,
-) -> char {
-    let Some(state) = replay(alloc, plan, sizes.0, board.history()) else {
-        return '!';
-    };
+fn plays(board: &mut Untold, plan: &Plan, sizes: (u32, u32), seed: &mut u64) -> char {
+    let state = replay(plan, sizes.0, board.history());
     let call = call(&state, seed);
     let wanted = wanted(&state, plan, sizes.1, call);
     let before = board.history().len();
@@ -172,7 +164,7 @@ fn play(alloc: Global, plan: &Plan, round: u32, came: &mut [u32; 128]) -> bool {
         return false;
     };
     for _ in 0..160 {
-        let answer = plays(alloc, &mut board, plan, sizes, &mut seed);
+        let answer = plays(&mut board, plan, sizes, &mut seed);
         if answer == '!' || answer == '?' {
             return false;
         }

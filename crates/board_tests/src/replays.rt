@@ -1,6 +1,5 @@
 //! What a history comes to, found anew from its events and the plan, by plain means.
 use fragment_plan::{Plan, named_by, width};
-use std::alloc::Global;
 use wait_queue::{Attempt, BoardEvent, FragmentStatus};
 
 /// Fragments below this number are looked at.
@@ -9,55 +8,48 @@ pub const MOST: u32 = 32;
 /// Keys of fragments that can't finish are at least this.
 pub const BLOCKED: u64 = 1_099_511_627_776;
 
-/// Where each fragment is, the number of its current attempt, and which executors are idle.
-#[derive(Drop)]
+/// Where each fragment is, the number of its current attempt, and which executors are idle. There are at most 32 fragments and eight
+/// executors; of what the plan or the board doesn't have, there is nothing, and none is idle.
+#[derive(Clone, Copy, Drop)]
 pub struct Replayed {
-    pub statuses: Vec<FragmentStatus>,
-    pub numbers: Vec<u32>,
-    pub idle: Vec<bool>,
+    pub statuses: [Option<FragmentStatus>; 32],
+    pub numbers: [u32; 32],
+    pub idle: [bool; 8],
 }
 
-fn put<T: Drop>(xs: &mut Vec<T>, at: u32, x: T) {
-    let at = at as usize;
-    if at < xs.len() {
-        xs[at] = x;
+fn put<T: Copy + Drop>(xs: &mut [T], at: u32, x: T) {
+    if let Some(place) = xs.get_mut(at as usize) {
+        *place = x;
     }
 }
 
 /// The replay of events on a board of so many executors.
-pub fn replay(
-    alloc: Global,
-    plan: &Plan,
-    executors: u32,
-    events: &[BoardEvent],
-) -> Option<Replayed> {
-    let count = plan.fragments().len();
-    let (Ok(statuses), Ok(numbers), Ok(idle)) = (
-        Vec::from_elem(alloc, FragmentStatus::Absent, count),
-        Vec::from_elem(alloc, 1u32, count),
-        Vec::from_elem(alloc, true, executors as usize),
-    ) else {
-        return None;
-    };
+pub fn replay(plan: &Plan, executors: u32, events: &[BoardEvent]) -> Replayed {
     let mut state = Replayed {
-        statuses,
-        numbers,
-        idle,
+        statuses: [None; 32],
+        numbers: [1; 32],
+        idle: [false; 8],
     };
+    for i in 0..plan.fragments().len().min(32) {
+        state.statuses[i] = Some(FragmentStatus::Absent);
+    }
+    for i in 0..executors {
+        put(&mut state.idle, i, true);
+    }
     for event in events {
         state.step(*event);
     }
-    Some(state)
+    state
 }
 
 impl Replayed {
     fn step(&mut self, event: BoardEvent) {
         match event {
             BoardEvent::Offered(fragment) => {
-                put(&mut self.statuses, fragment, FragmentStatus::Waiting)
+                put(&mut self.statuses, fragment, Some(FragmentStatus::Waiting))
             }
             BoardEvent::Evicted(fragment) => {
-                put(&mut self.statuses, fragment, FragmentStatus::Absent)
+                put(&mut self.statuses, fragment, Some(FragmentStatus::Absent))
             }
             BoardEvent::Rejected(_) => {}
             BoardEvent::Started(attempt) => {
@@ -74,20 +66,23 @@ impl Replayed {
     }
 
     fn moves(&mut self, attempt: Attempt, status: FragmentStatus, idle: bool) {
-        put(&mut self.statuses, attempt.fragment, status);
+        put(&mut self.statuses, attempt.fragment, Some(status));
         put(&mut self.idle, attempt.executor, idle);
     }
 
     /// Where a fragment is.
     pub fn status(&self, fragment: u32) -> Option<FragmentStatus> {
-        self.statuses.get(fragment as usize).copied()
+        match self.statuses.get(fragment as usize) {
+            Some(status) => *status,
+            None => None,
+        }
     }
 
     /// The number of a fragment's current attempt.
     pub fn number(&self, fragment: u32) -> u32 {
-        match self.numbers.get(fragment as usize) {
-            Some(number) => *number,
-            None => 0,
+        match (self.status(fragment), self.numbers.get(fragment as usize)) {
+            (Some(_), Some(number)) => *number,
+            _ => 0,
         }
     }
 

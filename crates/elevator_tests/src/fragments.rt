@@ -135,37 +135,63 @@ fn all_scan(
     true
 }
 
-/// Whether the scans of a plan over those bytes make the row's reads, and count its counts.
-fn reads_so(alloc: Global, row: &Row, bytes: &[u8], plan: &Plan) -> Option<bool> {
+/// Whether the scans of a plan over the store's file make the row's reads, and count its counts.
+fn reads_by(
+    alloc: Global,
+    cache: &Cache<RealWorld>,
+    seat: &mut PoolSeat<RealWorld>,
+    evictor: &mut Evictor,
+    store: &mut OneFile<'_>,
+    plan: &Plan,
+    row: &Row,
+) -> bool
+    requires seat { IsSeatOf (pool_of cache.now) seat.old }
+    requires no_pin { (header : ℕ) → (mark_at (view seat.old) header).hold ≡ Free }
+    requires evictor { IsEvictorOf (pool_of cache.now) evictor.old }
+{
+    let mut totals = CacheTotals::ZERO;
+    all_scan(alloc, cache, seat, evictor, store, &mut totals, plan)
+        && are_reads(store, row.reads, 0, usize::MAX)
+        && are_counts(&totals, &row.counts)
+}
+
+fn reads_in(
+    alloc: Global,
+    cache: &Cache<RealWorld>,
+    seat: &mut PoolSeat<RealWorld>,
+    bytes: &[u8],
+    plan: &Plan,
+    row: &Row,
+) -> bool
+    requires seat { IsSeatOf (pool_of cache.now) seat.old }
+    requires no_pin { (header : ℕ) → (mark_at (view seat.old) header).hold ≡ Free }
+{
+    let mut store = OneFile::new(alloc, bytes, usize::MAX);
+    match Evictor::new(alloc, cache) {
+        Ok(mut evictor) => reads_by(alloc, cache, seat, &mut evictor, &mut store, plan, row),
+        Err(_) => false,
+    }
+}
+
+/// Whether it is so over those bytes and through the row's cache.
+fn reads_so(alloc: Global, row: &Row, bytes: &[u8], plan: &Plan) -> bool {
     let sizes = Geometry {
         min_block: 64,
         arenas: 1,
         sets: row.sets,
     };
-    let (cache, mut seat) = Cache::<RealWorld>::create(alloc, sizes, row.half_life, 1).ok()?;
-    let mut evictor = Evictor::new(alloc, &cache).ok()?;
-    let mut totals = CacheTotals::ZERO;
-    let mut store = OneFile {
-        bytes,
-        reads: Vec::new(alloc),
-        most: usize::MAX,
-    };
-    let scanned = all_scan(
-        alloc,
-        &cache,
-        &mut seat,
-        &mut evictor,
-        &mut store,
-        &mut totals,
-        plan,
-    );
-    Some(scanned && are_reads(&store, row.reads, 0, usize::MAX) && are_counts(&totals, &row.counts))
+    match Cache::<RealWorld>::create(alloc, sizes, row.half_life, 1) {
+        Ok((cache, mut seat)) => reads_in(alloc, &cache, &mut seat, bytes, plan, row),
+        Err(_) => false,
+    }
 }
 
 fn row_holds(alloc: Global, row: &Row) -> Option<bool> {
     let bytes = bytes_of(alloc, row.file)?;
-    let plan = read_plan(alloc, row.plan.as_bytes()).ok()?;
-    reads_so(alloc, row, bytes.as_slice(), &plan)
+    match read_plan(alloc, row.plan.as_bytes()) {
+        Ok(plan) => Some(reads_so(alloc, row, bytes.as_slice(), &plan)),
+        Err(_) => None,
+    }
 }
 
 fn all_hold(alloc: Global) -> bool {

@@ -67,56 +67,88 @@ fn reads_rest(
         && are_reads(store, row.3, from, usize::MAX)
 }
 
+/// The scans that `goes_on` tells of, by a seat of the cache.
+fn scans_twice(
+    alloc: Global,
+    cache: &Cache<RealWorld>,
+    seat: &mut PoolSeat<RealWorld>,
+    evictor: &mut Evictor,
+    store: &mut OneFile<'_>,
+    plan: &Plan,
+    row: &Row,
+) -> bool
+    requires seat { IsSeatOf (pool_of cache.now) seat.old }
+    requires no_pin { (header : ℕ) → (mark_at (view seat.old) header).hold ≡ Free }
+    requires evictor { IsEvictorOf (pool_of cache.now) evictor.old }
+{
+    let all = row.3.split_whitespace().count();
+    let most = store.most;
+    let mut totals = CacheTotals::ZERO;
+    let cold = scans(
+        alloc,
+        cache,
+        seat,
+        evictor,
+        store,
+        &mut totals,
+        plan,
+        0,
+        most < all,
+    ) && are_reads(store, row.3, 0, most);
+    let warm = reads_rest(alloc, cache, seat, evictor, store, &mut totals, plan, row);
+    cold && warm && are_counts(&totals, &[most as u64, all as u64, 0, 0])
+}
+
+/// The same over a store of those bytes, of which so many reads succeed.
+fn goes_on_in(
+    alloc: Global,
+    cache: &Cache<RealWorld>,
+    seat: &mut PoolSeat<RealWorld>,
+    row: &Row,
+    bytes: &[u8],
+    plan: &Plan,
+    most: usize,
+) -> bool
+    requires seat { IsSeatOf (pool_of cache.now) seat.old }
+    requires no_pin { (header : ℕ) → (mark_at (view seat.old) header).hold ≡ Free }
+{
+    let mut store = OneFile::new(alloc, bytes, most);
+    match Evictor::new(alloc, cache) {
+        Ok(mut evictor) => scans_twice(alloc, cache, seat, &mut evictor, &mut store, plan, row),
+        Err(_) => false,
+    }
+}
+
 /// A cache with ample room, and a store of those bytes, of which so many reads succeed: a scan makes these, and ends by a read fault if
 /// there are more; and the next, whose reads all succeed, makes the others and finds the first.
-fn goes_on(alloc: Global, row: &Row, bytes: &[u8], plan: &Plan, most: usize) -> Option<bool> {
+fn goes_on(alloc: Global, row: &Row, bytes: &[u8], plan: &Plan, most: usize) -> bool {
     let sizes = Geometry {
         min_block: row.1,
         arenas: 4,
         sets: 64,
     };
-    let all = row.3.split_whitespace().count();
-    let (cache, mut seat) = Cache::<RealWorld>::create(alloc, sizes, 0, 1).ok()?;
-    let mut evictor = Evictor::new(alloc, &cache).ok()?;
-    let mut totals = CacheTotals::ZERO;
-    let mut store = OneFile {
-        bytes,
-        reads: Vec::new(alloc),
-        most,
-    };
-    let cold = scans(
-        alloc,
-        &cache,
-        &mut seat,
-        &mut evictor,
-        &mut store,
-        &mut totals,
-        plan,
-        0,
-        most < all,
-    ) && are_reads(&store, row.3, 0, most);
-    let warm = reads_rest(
-        alloc,
-        &cache,
-        &mut seat,
-        &mut evictor,
-        &mut store,
-        &mut totals,
-        plan,
-        row,
-    );
-    Some(cold && warm && are_counts(&totals, &[most as u64, all as u64, 0, 0]))
+    match Cache::<RealWorld>::create(alloc, sizes, 0, 1) {
+        Ok((cache, mut seat)) => goes_on_in(alloc, &cache, &mut seat, row, bytes, plan, most),
+        Err(_) => false,
+    }
+}
+
+/// Whether it is so for each count of reads that succeed.
+fn all_succeed(alloc: Global, row: &Row, bytes: &[u8], plan: &Plan) -> bool {
+    for most in 0..=row.3.split_whitespace().count() {
+        if !goes_on(alloc, row, bytes, plan, most) {
+            return false;
+        }
+    }
+    true
 }
 
 fn row_goes_on(alloc: Global, row: &Row) -> Option<bool> {
     let bytes = bytes_of(alloc, row.0)?;
-    let plan = read_plan(alloc, row.2.as_bytes()).ok()?;
-    for most in 0..=row.3.split_whitespace().count() {
-        if goes_on(alloc, row, bytes.as_slice(), &plan, most) != Some(true) {
-            return Some(false);
-        }
+    match read_plan(alloc, row.2.as_bytes()) {
+        Ok(plan) => Some(all_succeed(alloc, row, bytes.as_slice(), &plan)),
+        Err(_) => None,
     }
-    Some(true)
 }
 
 fn all_go_on(alloc: Global) -> bool {

@@ -26,18 +26,11 @@ fn printed(alloc: Global, plan: &Plan, outcome: &Outcome) -> Option<MemorySink> 
     Some(sink)
 }
 
-/// What is printed of the first fragment of a plan, which scans the file of these digits, and the reads that it made, of which so many
-/// were made before one failed.
-pub fn scanned(
-    alloc: Global,
-    digits: &str,
-    plan: &str,
-    most: usize,
-) -> Option<(MemorySink, Vec<(u64, usize)>)> {
-    let bytes = hex::decode(alloc, digits).ok()?;
+/// What is printed of the first fragment of a plan, which scans the file of that store.
+pub fn scanned(alloc: Global, store: &mut OneFile<'_>, plan: &str) -> Option<MemorySink> {
     let plan = read_plan(alloc, plan.as_bytes()).ok()?;
-    let mut store = OneFile::new(alloc, bytes.as_slice(), most);
-    let outcome = outcome_of::<RealWorld, _>(alloc, &mut store, &plan)?;
-    let sink = printed(alloc, &plan, &outcome)?;
-    Some((sink, store.reads))
+    match outcome_of::<RealWorld, _>(alloc, store, &plan) {
+        Some(outcome) => printed(alloc, &plan, &outcome),
+        None => None,
+    }
 }

@@ -5,6 +5,7 @@ use crate::files::{
 };
 use crate::one_scan::scanned;
 use std::alloc::Global;
+use test_stores::OneFile;
 
 /// Plans over the file of five kinds, each behind `$`, and below each what is printed.
 const FOLDS: &str = "
@@ -196,23 +197,34 @@ r failed compressed 1
     ),
 ];
 
-/// Whether that is printed of the scan of the file of these digits by that plan.
-fn prints(alloc: Global, digits: &str, plan: &str, text: &str) -> Option<bool> {
-    let (sink, _) = scanned(alloc, digits, plan, usize::MAX)?;
-    Some(sink.written()? == text.as_bytes())
+/// Whether that is printed of the scan of a file of these bytes by that plan.
+fn prints(alloc: Global, file: &[u8], plan: &str, text: &str) -> bool {
+    let mut store = OneFile::new(alloc, file, usize::MAX);
+    match scanned(alloc, &mut store, plan) {
+        Some(sink) => sink.written() == Some(text.as_bytes()),
+        None => false,
+    }
 }
 
-/// Whether each of the plans over the file of these digits prints the text below it.
-fn all_print(alloc: Global, digits: &str, plans: &str) -> bool {
+/// Whether each of the plans over a file of these bytes prints the text below it.
+fn file_prints(alloc: Global, file: &[u8], plans: &str) -> bool {
     for case in plans.split('$').skip(1) {
         let Some((plan, text)) = case.split_once('\n') else {
             return false;
         };
-        if prints(alloc, digits, plan, text) != Some(true) {
+        if !prints(alloc, file, plan, text) {
             return false;
         }
     }
     true
+}
+
+/// The same of a file of these digits.
+fn all_print(alloc: Global, digits: &str, plans: &str) -> bool {
+    match hex::decode(alloc, digits) {
+        Ok(file) => file_prints(alloc, file.as_slice(), plans),
+        Err(_) => false,
+    }
 }
 
 fn others_print(alloc: Global) -> bool {

@@ -2,6 +2,7 @@
 use crate::files::{FIVE_KINDS, LONG_STRIPES, TWO_NAMES};
 use crate::one_scan::scanned;
 use std::alloc::Global;
+use test_stores::OneFile;
 
 /// A file, a scan of it, and its reads: the end, the file's footer, and for each stripe its footer and the streams of each column, by
 /// ascending numbers and each once. A scan without a column reads no footer of a stripe, and one whose column is missing reads none.
@@ -58,22 +59,45 @@ const READS: [(&str, &str, &[(u64, usize)]); 5] = [
 
 /// Whether the first so many of these reads, or all, are those of a scan of which no more succeed, and that ends by a read fault if there
 /// are more.
-fn reads_up_to(alloc: Global, case: &(&str, &str, &[(u64, usize)]), most: usize) -> Option<bool> {
-    let (sink, made) = scanned(alloc, case.0, case.1, most)?;
-    let failed = sink.written()?.ends_with(b" failed read fault\n");
-    let wanted = case.2.get(..most.min(case.2.len()));
-    Some(Some(made.as_slice()) == wanted && failed == (most < case.2.len()))
+fn reads_up_to(
+    alloc: Global,
+    file: &[u8],
+    plan: &str,
+    reads: &[(u64, usize)],
+    most: usize,
+) -> bool {
+    let mut store = OneFile::new(alloc, file, most);
+    let Some(sink) = scanned(alloc, &mut store, plan) else {
+        return false;
+    };
+    let Some(text) = sink.written() else {
+        return false;
+    };
+    let failed = text.ends_with(b" failed read fault\n");
+    failed == (most < reads.len())
+        && Some(store.reads.as_slice()) == reads.get(..most.min(reads.len()))
+}
+
+/// Whether they are for each count of reads that succeed. At the end all of them do, and one more would be seen.
+fn file_is_read(alloc: Global, file: &[u8], plan: &str, reads: &[(u64, usize)]) -> bool {
+    for most in 0..reads.len() {
+        if !reads_up_to(alloc, file, plan, reads, most) {
+            return false;
+        }
+    }
+    reads_up_to(alloc, file, plan, reads, usize::MAX)
+}
+
+fn holds(alloc: Global, digits: &str, plan: &str, reads: &[(u64, usize)]) -> bool {
+    match hex::decode(alloc, digits) {
+        Ok(file) => file_is_read(alloc, file.as_slice(), plan, reads),
+        Err(_) => false,
+    }
 }
 
 fn all_read(alloc: Global) -> bool {
-    for case in &READS {
-        for most in 0..case.2.len() {
-            if reads_up_to(alloc, case, most) != Some(true) {
-                return false;
-            }
-        }
-        // All of them succeed, and one more would be seen.
-        if reads_up_to(alloc, case, usize::MAX) != Some(true) {
+    for (digits, plan, reads) in &READS {
+        if !holds(alloc, digits, plan, reads) {
             return false;
         }
     }
