@@ -1,23 +1,31 @@
 //! The line of each outcome of a fragment, and the words of faults.
+use crate::top_call::sink_of;
 use fragment_outcome::{Answer, Failure, Outcome, write_result};
-use fragment_plan::read_plan;
+use fragment_plan::{Plan, read_plan};
 use orc_columns::{ColumnFault, StreamName};
 use orc_proto::WireFault;
 use orc_tail::TailFault;
 use outside::{Bytes, MemorySink, RunFault};
 use std::alloc::Global;
 
-/// What is written of an outcome of the fragment `s`.
-fn line_is(alloc: Global, outcome: &Outcome, text: &str) -> Option<bool> {
-    let plan = read_plan(alloc, b"s count from t.orc").ok()?;
-    let mut sink = MemorySink::new(alloc, Vec::new(alloc), 200).ok()?;
-    write_result(&plan, 0, outcome, &mut sink).ok()?;
-    Some(sink.written()? == text.as_bytes())
+/// Whether the line of a plan's first fragment with that outcome is written to that sink, and nothing else.
+fn is_line(plan: &Plan, outcome: &Outcome, sink: &mut MemorySink, text: &str) -> bool {
+    write_result(plan, 0, outcome, sink).is_ok() && sink.written() == Some(text.as_bytes())
 }
 
-/// Whether the outcome has that line.
+fn plan_has_line(alloc: Global, plan: &Plan, outcome: &Outcome, text: &str) -> bool {
+    match sink_of(alloc, 0) {
+        Some(mut sink) => is_line(plan, outcome, &mut sink, text),
+        None => false,
+    }
+}
+
+/// Whether the outcome of the fragment `s` has that line.
 fn has_line(alloc: Global, outcome: Outcome, text: &str) -> bool {
-    line_is(alloc, &outcome, text) == Some(true)
+    match read_plan(alloc, b"s count from t.orc") {
+        Ok(plan) => plan_has_line(alloc, &plan, &outcome, text),
+        Err(_) => false,
+    }
 }
 
 /// Whether the failure has that line.

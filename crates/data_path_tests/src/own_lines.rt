@@ -1,19 +1,25 @@
 //! The program's own lines.
+use crate::top_call::sink_of;
 use data_path::{in_order, own_line};
-use outside::MemorySink;
 use std::alloc::Global;
 
-/// The exit status of an own line over a sink whose first write fails, or not, and what it holds.
-fn own_line_answers(alloc: Global, failing: u64, code: u8, text: &[u8]) -> Option<bool> {
-    let mut sink = MemorySink::new(alloc, [failing].to_vec(alloc).ok()?, 64).ok()?;
-    let answered = own_line(&mut sink, b"folder fault\n", 6);
-    Some(answered == code && sink.written() == Some(text))
+/// Whether an own line over a sink whose first write fails, or not, has that exit status, and is then what the sink holds.
+fn own_line_answers(alloc: Global, failing: u64, code: u8, text: &[u8]) -> bool {
+    match sink_of(alloc, failing) {
+        Some(mut sink) => {
+            own_line(&mut sink, b"folder fault\n", 6) == code && sink.written() == Some(text)
+        }
+        None => false,
+    }
+}
+
+fn own_lines_answer(alloc: Global) -> bool {
+    own_line_answers(alloc, 0, 6, b"folder fault\n") && own_line_answers(alloc, 1, 4, b"")
 }
 
 #[test]
 fn an_own_line_has_its_status_or_that_of_a_write_fault(rt: HostRuntime) {
-    assert!(rt; own_line_answers(rt.alloc(), 0, 6, b"folder fault\n") == Some(true));
-    assert!(rt; own_line_answers(rt.alloc(), 1, 4, b"") == Some(true));
+    assert!(rt; own_lines_answer(rt.alloc()));
 }
 
 /// Whether texts become names in their order, each once.

@@ -40,6 +40,26 @@ pub fn sink_of(alloc: Global, failing: u64) -> Option<MemorySink> {
     }
 }
 
+/// The exit status of the call over that source and that store, where it writes just that text.
+fn status_of<W: World + Send>(
+    alloc: Global,
+    source: &mut MemorySource,
+    store: &mut MemoryStore<W>,
+    text: &str,
+) -> Option<u8> {
+    match sink_of(alloc, 0) {
+        Some(mut sink) => {
+            let code = run(alloc, &[], source, store, &mut sink).code();
+            if sink.written() == Some(text.as_bytes()) {
+                Some(code)
+            } else {
+                None
+            }
+        }
+        None => None,
+    }
+}
+
 /// The exit status of the call over that store and memory forms of the plan's source and the sink, where it writes just that text.
 pub fn told_status<W: World + Send>(
     alloc: Global,
@@ -47,11 +67,8 @@ pub fn told_status<W: World + Send>(
     store: &mut MemoryStore<W>,
     text: &str,
 ) -> Option<u8> {
-    let mut source = source_of(alloc, plan, 0)?;
-    let mut sink = sink_of(alloc, 0)?;
-    let status = run(alloc, &[], &mut source, store, &mut sink);
-    if sink.written() != Some(text.as_bytes()) {
-        return None;
+    match source_of(alloc, plan, 0) {
+        Some(mut source) => status_of(alloc, &mut source, store, text),
+        None => None,
     }
-    Some(status.code())
 }

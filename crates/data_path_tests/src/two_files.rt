@@ -1,6 +1,6 @@
 //! Two files in a store that tells what it holds and was asked for.
 ghost use Rattle.std.specs.Prelude.{◌≡◌, Some, IfSome};
-ghost use Rattle.data_path_tests.specs.Worked.{two_files, told_are_two};
+ghost use Rattle.data_path_tests.specs.TwoFiles.{two_files, told_are_two};
 
 use crate::top_call::told_status;
 use outside::{Bytes, MemoryStore, Name, World};

@@ -115,8 +115,33 @@ fn are_got(
     true
 }
 
-/// Whether a new cache of so many arenas gets the rows, by so many reads of a store that fails at one of them; and the words of the first
-/// arena, of the clock and of the touches of header 0 then.
+/// Whether a cache gets the rows, by so many reads of a store that fails at one of them.
+fn runs_in(
+    alloc: Global,
+    cache: &Cache<RealWorld>,
+    seat: &mut PoolSeat<RealWorld>,
+    len: u32,
+    failing: u64,
+    rows: &[(u8, u64)],
+    reads: u64,
+) -> bool
+    requires seat { IsSeatOf (pool_of cache.now) seat.old }
+    requires sizes { (sizes_of (pool_of cache.now)).min_block ≡ 64 }
+    requires len { (64 ≤ len) × (len ≤ 2048) }
+    requires nothing { HasNothing (view seat.old) }
+    ensures { IsSeatOf (pool_of cache.now) seat.new }
+{
+    let mut store = Pattern::new(failing);
+    match Evictor::new(alloc, cache) {
+        Ok(mut evictor) => {
+            are_got(cache, seat, &mut evictor, &mut store, len, rows) && store.reads == reads
+        }
+        Err(_) => false,
+    }
+}
+
+/// Whether a new cache of so many arenas does, and the words of the first arena, of the clock and of the touches of header 0 are then
+/// these.
 fn runs(
     alloc: Global,
     arenas: u32,
@@ -129,23 +154,20 @@ fn runs(
 ) -> bool
     requires { (64 ≤ len) × (len ≤ 2048) }
 {
-    let mut store = Pattern::new(failing);
     let geometry = Geometry {
         min_block: 64,
         arenas,
         sets: 1,
     };
-    let Ok((cache, mut seat)) = Cache::<RealWorld>::create(alloc, geometry, half_life, 1) else {
-        return false;
-    };
-    let Ok(mut evictor) = Evictor::new(alloc, &cache) else {
-        return false;
-    };
-    are_got(&cache, &mut seat, &mut evictor, &mut store, len, rows)
-        && store.reads == reads
-        && look(cache.pool(), &mut seat, WordName::Arena(0)) == words[0]
-        && look(cache.pool(), &mut seat, WordName::Clock) == words[1]
-        && look(cache.pool(), &mut seat, WordName::Touches(0)) == words[2]
+    match Cache::<RealWorld>::create(alloc, geometry, half_life, 1) {
+        Ok((cache, mut seat)) => {
+            runs_in(alloc, &cache, &mut seat, len, failing, rows, reads)
+                && look(cache.pool(), &mut seat, WordName::Arena(0)) == words[0]
+                && look(cache.pool(), &mut seat, WordName::Clock) == words[1]
+                && look(cache.pool(), &mut seat, WordName::Touches(0)) == words[2]
+        }
+        Err(_) => false,
+    }
 }
 
 /// Three ranges of which two fit: what goes is the one of fewest touches, or of the oldest where touches are forgotten.

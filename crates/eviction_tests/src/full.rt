@@ -129,16 +129,35 @@ fn fills_the_set(
         && get(cache, seat, evictor, store, 8, 64) == FILLED + 1
 }
 
-fn a_held_set_is_full(alloc: Global) -> bool {
+fn fills_by_two(
+    alloc: Global,
+    cache: &Cache<RealWorld>,
+    seat: &mut PoolSeat<RealWorld>,
+    rest: &mut PoolSeat<RealWorld>,
+) -> bool
+    requires seat { IsSeatOf (pool_of cache.now) seat.old }
+    requires rest { IsSeatOf (pool_of cache.now) rest.old }
+    requires bytes { (sizes_of (pool_of cache.now)).min_block ≡ 64 }
+    requires sets { (sizes_of (pool_of cache.now)).sets ≡ 1 }
+    requires nothing { HasNothing (view seat.old) }
+    requires free { HasNothing (view rest.old) }
+    requires numbers { length (view rest.old).numbers ≡ 9 }
+{
     let mut store = Pattern::new(0);
-    let Ok((cache, mut seat)) = Cache::<RealWorld>::create(alloc, GEOMETRY, 0, 10) else {
-        return false;
-    };
-    let Ok(mut evictor) = Evictor::new(alloc, &cache) else {
-        return false;
-    };
-    let mut rest = split(cache.pool(), &mut seat, 9);
-    fills_the_set(&cache, &mut seat, &mut rest, &mut evictor, &mut store)
+    match Evictor::new(alloc, cache) {
+        Ok(mut evictor) => fills_the_set(cache, seat, rest, &mut evictor, &mut store),
+        Err(_) => false,
+    }
+}
+
+fn a_held_set_is_full(alloc: Global) -> bool {
+    match Cache::<RealWorld>::create(alloc, GEOMETRY, 0, 10) {
+        Ok((cache, mut seat)) => {
+            let mut rest = split(cache.pool(), &mut seat, 9);
+            fills_by_two(alloc, &cache, &mut seat, &mut rest)
+        }
+        Err(_) => false,
+    }
 }
 
 #[test]

@@ -87,24 +87,39 @@ fn waits_for_the_held(
     filled && full && then == FILLED + 1
 }
 
-fn held_ranges_stay(alloc: Global) -> bool {
+fn waits_by_three(
+    alloc: Global,
+    cache: &Cache<RealWorld>,
+    seat: &mut PoolSeat<RealWorld>,
+    second: &mut PoolSeat<RealWorld>,
+    third: &mut PoolSeat<RealWorld>,
+) -> bool
+    requires seat { IsSeatOf (pool_of cache.now) seat.old }
+    requires second { IsSeatOf (pool_of cache.now) second.old }
+    requires third { IsSeatOf (pool_of cache.now) third.old }
+    requires bytes { (sizes_of (pool_of cache.now)).min_block ≡ 64 }
+    requires sets { (sizes_of (pool_of cache.now)).sets ≡ 1 }
+    requires arenas { (sizes_of (pool_of cache.now)).arenas ≡ 1 }
+    requires nothing { HasNothing (view seat.old) }
+    requires free { HasNothing (view second.old) }
+    requires third_free { HasNothing (view third.old) }
+{
     let mut store = Pattern::new(0);
-    let Ok((cache, mut seat)) = Cache::<RealWorld>::create(alloc, GEOMETRY, 0, 3) else {
-        return false;
-    };
-    let Ok(mut evictor) = Evictor::new(alloc, &cache) else {
-        return false;
-    };
-    let mut second = split(cache.pool(), &mut seat, 2);
-    let mut third = split(cache.pool(), &mut second, 1);
-    waits_for_the_held(
-        &cache,
-        &mut seat,
-        &mut second,
-        &mut third,
-        &mut evictor,
-        &mut store,
-    )
+    match Evictor::new(alloc, cache) {
+        Ok(mut evictor) => waits_for_the_held(cache, seat, second, third, &mut evictor, &mut store),
+        Err(_) => false,
+    }
+}
+
+fn held_ranges_stay(alloc: Global) -> bool {
+    match Cache::<RealWorld>::create(alloc, GEOMETRY, 0, 3) {
+        Ok((cache, mut seat)) => {
+            let mut second = split(cache.pool(), &mut seat, 2);
+            let mut third = split(cache.pool(), &mut second, 1);
+            waits_by_three(alloc, &cache, &mut seat, &mut second, &mut third)
+        }
+        Err(_) => false,
+    }
 }
 
 #[test]

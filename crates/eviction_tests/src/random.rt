@@ -186,29 +186,50 @@ fn outer(
     true
 }
 
-fn both_agree(alloc: Global, half_life: u64) -> bool {
+fn three_agree(
+    alloc: Global,
+    cache: &Cache<RealWorld>,
+    seat: &mut PoolSeat<RealWorld>,
+    second: &mut PoolSeat<RealWorld>,
+    third: &mut PoolSeat<RealWorld>,
+    plain: &mut Plain,
+) -> bool
+    requires seat { IsSeatOf (pool_of cache.now) seat.old }
+    requires second { IsSeatOf (pool_of cache.now) second.old }
+    requires third { IsSeatOf (pool_of cache.now) third.old }
+    requires sizes { (sizes_of (pool_of cache.now)).min_block ≡ 64 }
+    requires nothing { HasNothing (view seat.old) }
+    requires free { HasNothing (view second.old) }
+    requires third_free { HasNothing (view third.old) }
+{
     let mut store = Pattern::new(0);
-    let Ok((cache, mut seat)) = Cache::<RealWorld>::create(alloc, GEOMETRY, half_life, 3) else {
-        return false;
-    };
-    let Ok(mut evictor) = Evictor::new(alloc, &cache) else {
-        return false;
-    };
-    let mut second = split(cache.pool(), &mut seat, 2);
-    let mut third = split(cache.pool(), &mut second, 1);
-    let mut plain = new_plain(half_life);
     let mut rng = SplitMix64::seed_from_u64(1);
-    let agree = outer(
-        &cache,
-        &mut seat,
-        &mut second,
-        &mut third,
-        &mut evictor,
-        &mut store,
-        &mut plain,
-        &mut rng,
-    );
-    agree && was_used(&plain, 5_000, 1_000, 500)
+    match Evictor::new(alloc, cache) {
+        Ok(mut evictor) => {
+            let (evictor, store) = (&mut evictor, &mut store);
+            outer(cache, seat, second, third, evictor, store, plain, &mut rng)
+        }
+        Err(_) => false,
+    }
+}
+
+fn both_agree(alloc: Global, half_life: u64) -> bool {
+    let mut plain = new_plain(half_life);
+    match Cache::<RealWorld>::create(alloc, GEOMETRY, half_life, 3) {
+        Ok((cache, mut seat)) => {
+            let mut second = split(cache.pool(), &mut seat, 2);
+            let mut third = split(cache.pool(), &mut second, 1);
+            three_agree(
+                alloc,
+                &cache,
+                &mut seat,
+                &mut second,
+                &mut third,
+                &mut plain,
+            ) && was_used(&plain, 5_000, 1_000, 500)
+        }
+        Err(_) => false,
+    }
 }
 
 #[test]

@@ -12,18 +12,18 @@ split-third-requires-clause-numbers c =
     let two = ap (λ (x : View). length x.numbers) c.split-second.ensures.part ∙ part_count 2 v (omega (arith, all)) in
     (omega arith, omega (arith, two))
 
-pub waits_for_the_held-requires-clause-nothing : goal.waits_for_the_held-requires-clause-nothing
-waits_for_the_held-requires-clause-nothing c =
+pub waits_by_three-requires-clause-nothing : goal.waits_by_three-requires-clause-nothing
+waits_by_three-requires-clause-nothing c =
     let P : View → Type 0 = λ x. HasNothing x in
     subst P (sym c.split-second.ensures.view) (parted_nothing 2 (view c.in-Ok.seat) c.in-Ok.ensures.nothing.0)
 
-pub waits_for_the_held-requires-clause-free : goal.waits_for_the_held-requires-clause-free
-waits_for_the_held-requires-clause-free c =
+pub waits_by_three-requires-clause-free : goal.waits_by_three-requires-clause-free
+waits_by_three-requires-clause-free c =
     let P : View → Type 0 = λ x. HasNothing x in
     subst P (sym c.split-third.ensures.view)
     (parted_nothing 1 (view c.split-second.result) (subst P (sym c.split-second.ensures.part) (part_nothing 2 (view c.in-Ok.seat))))
 
-pub waits_for_the_held-requires-clause-third_free : goal.waits_for_the_held-requires-clause-third_free
-waits_for_the_held-requires-clause-third_free c =
+pub waits_by_three-requires-clause-third_free : goal.waits_by_three-requires-clause-third_free
+waits_by_three-requires-clause-third_free c =
     let P : View → Type 0 = λ x. HasNothing x in
     subst P (sym c.split-third.ensures.part) (part_nothing 1 (view c.split-second.result))

@@ -12,18 +12,18 @@ split-third-requires-clause-numbers c =
     let two = ap (λ (x : View). length x.numbers) c.split-second.ensures.part ∙ part_count 2 v (omega (arith, all)) in
     (omega arith, omega (arith, two))
 
-pub outer-agree-requires-clause-nothing : goal.outer-agree-requires-clause-nothing
-outer-agree-requires-clause-nothing c =
+pub three_agree-requires-clause-nothing : goal.three_agree-requires-clause-nothing
+three_agree-requires-clause-nothing c =
     let P : View → Type 0 = λ x. HasNothing x in
     subst P (sym c.split-second.ensures.view) (parted_nothing 2 (view c.in-Ok.seat) c.in-Ok.ensures.nothing.0)
 
-pub outer-agree-requires-clause-free : goal.outer-agree-requires-clause-free
-outer-agree-requires-clause-free c =
+pub three_agree-requires-clause-free : goal.three_agree-requires-clause-free
+three_agree-requires-clause-free c =
     let P : View → Type 0 = λ x. HasNothing x in
     subst P (sym c.split-third.ensures.view)
     (parted_nothing 1 (view c.split-second.result) (subst P (sym c.split-second.ensures.part) (part_nothing 2 (view c.in-Ok.seat))))
 
-pub outer-agree-requires-clause-third_free : goal.outer-agree-requires-clause-third_free
-outer-agree-requires-clause-third_free c =
+pub three_agree-requires-clause-third_free : goal.three_agree-requires-clause-third_free
+three_agree-requires-clause-third_free c =
     let P : View → Type 0 = λ x. HasNothing x in
     subst P (sym c.split-third.ensures.part) (part_nothing 1 (view c.split-second.result))
