@@ -15,11 +15,16 @@ pub struct Case<'a> {
     pub wanted: &'a str,
 }
 
+/// The number of a word.
+pub fn number_of(word: &str) -> Option<u64> {
+    word.parse::<u64>().ok()
+}
+
 /// The first four words of a line, which are numbers.
 fn numbers_of(alloc: Global, column: &str) -> Option<Vec<u64>> {
     let mut numbers = Vec::new(alloc);
     for word in column.split(' ').take(4) {
-        numbers.push(word.parse::<u64>().ok()?).ok()?;
+        numbers.push(number_of(word)?).ok()?;
     }
     Some(numbers)
 }
@@ -150,16 +155,16 @@ fn read_rows(
     reader: &mut ColumnReader,
     feed: &mut CaseFeed<'_>,
     sizes: (u64, u64),
+    out: &mut Column,
     words: &mut String,
 ) -> Option<Result<(), ColumnFault>> {
     let (mut left, batch) = sizes;
-    let mut out = Column::empty(alloc);
     while left > 0 {
         let rows = left.min(batch);
-        if let Err(fault) = next_batch(alloc, reader, feed, rows, &mut out)? {
+        if let Err(fault) = next_batch(alloc, reader, feed, rows, out)? {
             return Some(Err(fault));
         }
-        push_rows(alloc, words, &out)?;
+        push_rows(alloc, words, out)?;
         left = left.saturating_sub(rows.max(1));
     }
     Some(Ok(()))
@@ -178,7 +183,8 @@ pub fn read_column(
         Ok(mut reader) => {
             feed.end_part();
             let sizes = (number(case, 3), batch);
-            read_rows(alloc, &mut reader, feed, sizes, &mut words)?
+            let mut out = Column::empty(alloc);
+            read_rows(alloc, &mut reader, feed, sizes, &mut out, &mut words)?
         }
         Err(fault) => Err(fault),
     };

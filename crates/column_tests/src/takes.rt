@@ -1,6 +1,6 @@
 //! From which streams a column is taken, in which order, and what is left of them.
 
-use crate::case::{Case, case_of, feed_of, judged, read_column};
+use crate::case::{Case, case_of, feed_of, judged, number_of, read_column};
 use crate::case_feed::CaseFeed;
 use std::alloc::Global;
 
@@ -28,7 +28,7 @@ const JUDGED: &str = "\
 /// Whether the trail and what is left are what is wanted.
 fn is_taken(case: &Case<'_>, feed: &CaseFeed<'_>) -> Option<bool> {
     let (trail, left) = case.wanted.split_once(' ')?;
-    Some(trail.parse::<u64>().ok()? == feed.trail && left.parse::<u64>().ok()? == feed.left())
+    Some(number_of(trail)? == feed.trail && number_of(left)? == feed.left())
 }
 
 /// Whether a line's column is taken so, read row by row or judged.

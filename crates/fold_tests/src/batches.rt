@@ -6,61 +6,69 @@ use fragment_plan::FoldKind;
 use orc_values::{Column, ColumnValues, Texts, count_present};
 use std::alloc::Global;
 
-fn column(present: Vec<bool>, values: ColumnValues) -> Option<Column> {
+/// A column of these values, which stand in the rows of a text other than `_`.
+fn column(alloc: Global, text: &str, values: ColumnValues) -> Option<Column> {
+    let present = present_of(alloc, text)?;
     if count_present(&present) != values.len() {
         return None;
     }
     Some(Column::new(present, values))
 }
 
-fn ints(alloc: Global, text: &str) -> Option<Column> {
+fn present_of(alloc: Global, text: &str) -> Option<Vec<bool>> {
     let mut present = Vec::new(alloc);
-    let mut entries = Vec::new(alloc);
     for value in text.split(',') {
         present.push(value != "_").ok()?;
+    }
+    Some(present)
+}
+
+fn ints(alloc: Global, text: &str) -> Option<ColumnValues> {
+    let mut entries = Vec::new(alloc);
+    for value in text.split(',') {
         if value != "_" {
             entries.push(value.parse::<i64>().unwrap_or(0)).ok()?;
         }
     }
-    column(present, ColumnValues::Ints(entries))
+    Some(ColumnValues::Ints(entries))
 }
 
-fn bools(alloc: Global, text: &str) -> Option<Column> {
-    let mut present = Vec::new(alloc);
+fn bools(alloc: Global, text: &str) -> Option<ColumnValues> {
     let mut entries = Vec::new(alloc);
     for value in text.split(',') {
-        present.push(value != "_").ok()?;
         if value != "_" {
             entries.push(value == "1").ok()?;
         }
     }
-    column(present, ColumnValues::Bools(entries))
+    Some(ColumnValues::Bools(entries))
 }
 
-fn texts(alloc: Global, text: &str) -> Option<Column> {
-    let mut present = Vec::new(alloc);
+fn texts(alloc: Global, text: &str) -> Option<ColumnValues> {
     let mut entries = Texts::empty(alloc);
     for value in text.split(',') {
-        present.push(value != "_").ok()?;
         if value != "_" {
             entries.push(value.as_bytes()).ok()?;
         }
     }
-    column(present, ColumnValues::Texts(entries))
+    Some(ColumnValues::Texts(entries))
 }
 
-/// The columns of a batch, parted by spaces: a kind and its values parted by commas, `_` where there is none.
+/// The column of a text: a kind and its values parted by commas, `_` where there is none.
+fn column_of(alloc: Global, text: &str) -> Option<Column> {
+    let (kind, values) = text.split_at_checked(1)?;
+    match kind {
+        "i" => column(alloc, values, ints(alloc, values)?),
+        "b" => column(alloc, values, bools(alloc, values)?),
+        "t" => column(alloc, values, texts(alloc, values)?),
+        _ => None,
+    }
+}
+
+/// The columns of a batch, parted by spaces.
 fn columns_of(alloc: Global, text: &str) -> Option<Vec<Column>> {
     let mut columns = Vec::new(alloc);
     for text in text.split(' ') {
-        let column = match text.strip_prefix('i') {
-            Some(values) => ints(alloc, values)?,
-            None => match text.strip_prefix('b') {
-                Some(values) => bools(alloc, values)?,
-                None => texts(alloc, text.strip_prefix('t')?)?,
-            },
-        };
-        columns.push(column).ok()?;
+        columns.push(column_of(alloc, text)?).ok()?;
     }
     Some(columns)
 }
@@ -83,14 +91,18 @@ pub fn give(alloc: Global, fold: &mut Fold, text: &str) -> Option<()> {
         return count(fold, rows.parse::<u64>().ok()?);
     }
     let columns = columns_of(alloc, text)?;
+    give_columns(alloc, fold, &columns)
+}
+
+fn give_columns(alloc: Global, fold: &mut Fold, columns: &[Column]) -> Option<()> {
     let rows = columns.first()?.len();
-    if rows > 1000 || fold.rows() > 1000 || !are_long(&columns, rows) {
+    if rows > 1000 || fold.rows() > 1000 || !are_long(columns, rows) {
         return None;
     }
     if fold.scan().columns.as_slice().len() != columns.len() {
         return None;
     }
-    fold.fold_batch(alloc, &columns).ok()
+    fold.fold_batch(alloc, columns).ok()
 }
 
 fn count(fold: &mut Fold, rows: u64) -> Option<()> {

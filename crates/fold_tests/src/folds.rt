@@ -140,33 +140,40 @@ fn answers_of(alloc: Global, plan: &Plan, scans: &str) -> Option<Vec<Answer>> {
     Some(answers)
 }
 
-/// What becomes of a merge of these answers, in the order of its line.
-fn merged(alloc: Global, sources: &[u32], answers: &[Answer]) -> Option<Outcome> {
-    let (first, others) = sources.split_first()?;
-    let mut merge = Merge::new(alloc, answers.get(*first as usize)?).ok()?;
-    for source in others {
+/// Adds the answers of these sources.
+fn add_all(alloc: Global, merge: &mut Merge, sources: &[u32], answers: &[Answer]) -> Option<()> {
+    for source in sources {
         if merge.answers() > 1000 {
             return None;
         }
         merge.add(alloc, answers.get(*source as usize)?).ok()?;
     }
+    Some(())
+}
+
+/// What becomes of a merge of these answers, in the order of its line.
+fn merged(alloc: Global, sources: &[u32], answers: &[Answer]) -> Option<Outcome> {
+    let (first, others) = sources.split_first()?;
+    let mut merge = Merge::new(alloc, answers.get(*first as usize)?).ok()?;
+    add_all(alloc, &mut merge, others, answers)?;
     match merge.finish() {
         Ok(answer) => Some(Outcome::Answer(answer)),
         Err(_) => Some(Outcome::Failure(Failure::Overflow)),
     }
 }
 
+/// Whether a fragment's outcome is written to a sink.
+pub fn writes(plan: &Plan, number: u32, outcome: &Outcome, sink: &mut MemorySink) -> bool {
+    write_result(plan, number, outcome, sink).is_ok()
+}
+
 /// Whether that is printed of a fragment's outcome.
 pub fn prints(alloc: Global, plan: &Plan, number: u32, outcome: &Outcome, text: &str) -> bool {
-    let Ok(mut sink) = MemorySink::new(alloc, Vec::new(alloc), 200) else {
-        return false;
-    };
-    if write_result(plan, number, outcome, &mut sink).is_err() {
-        return false;
-    }
-    match sink.written() {
-        Some(bytes) => bytes == text.as_bytes(),
-        None => false,
+    match MemorySink::new(alloc, Vec::new(alloc), 200) {
+        Ok(mut sink) => {
+            writes(plan, number, outcome, &mut sink) && sink.written() == Some(text.as_bytes())
+        }
+        Err(_) => false,
     }
 }
 
@@ -179,15 +186,19 @@ fn folds_to(alloc: Global, plan: &str, batches: &str, text: &str) -> Option<bool
     Some(prints(alloc, &plan, 0, &outcome, text))
 }
 
+/// The outcome of a plan's last fragment, which merges the answers of all others.
+fn merge_of(alloc: Global, plan: &Plan, answers: &[Answer]) -> Option<Outcome> {
+    match &plan.fragments().get(answers.len())?.work {
+        Work::Merge(sources) => merged(alloc, sources.as_slice(), answers),
+        Work::Scan(_) => None,
+    }
+}
+
 fn merges_to(alloc: Global, plan: &str, scans: &str, text: &str) -> Option<bool> {
     let plan = plan_of(alloc, plan)?;
     let answers = answers_of(alloc, &plan, scans)?;
     let number = u32::try_from(answers.len()).ok()?;
-    let fragment = plan.fragments().get(answers.len())?;
-    let Work::Merge(sources) = &fragment.work else {
-        return None;
-    };
-    let outcome = merged(alloc, sources.as_slice(), &answers)?;
+    let outcome = merge_of(alloc, &plan, &answers)?;
     Some(prints(alloc, &plan, number, &outcome, text))
 }
 

@@ -1,6 +1,6 @@
 //! The printed causes of failures, and a write that fails.
-use crate::folds::prints;
-use fragment_outcome::{Failure, Outcome, write_result};
+use crate::folds::{prints, writes};
+use fragment_outcome::{Failure, Outcome};
 use fragment_plan::{Plan, read_plan};
 use orc_columns::{ColumnFault, StreamName};
 use orc_tail::TailFault;
@@ -54,12 +54,16 @@ fn causes_are_printed(alloc: Global) -> Option<bool> {
     Some(named && stripes_are_named(alloc, &plan) && tails_are_named(alloc, &plan))
 }
 
+/// A sink whose first write fails.
+fn failing(alloc: Global) -> Option<MemorySink> {
+    MemorySink::new(alloc, [1u64].to_vec(alloc).ok()?, 200).ok()
+}
+
 fn a_failed_write_is_told(alloc: Global) -> Option<bool> {
     let plan = read_plan(alloc, PLAN.as_bytes()).ok()?;
-    let mut sink = MemorySink::new(alloc, [1u64].to_vec(alloc).ok()?, 200).ok()?;
-    let outcome = Outcome::Failure(Failure::NoFile);
-    let failed = write_result(&plan, 0, &outcome, &mut sink).is_err();
-    Some(failed && sink.written()?.is_empty())
+    let mut sink = failing(alloc)?;
+    let done = writes(&plan, 0, &Outcome::Failure(Failure::NoFile), &mut sink);
+    Some(!done && sink.written()?.is_empty())
 }
 
 #[test]

@@ -6,17 +6,23 @@ use orc_writer::MakeFault;
 use outside::{Failed, FileRef, MemorySink, Store};
 use std::alloc::Global;
 
+/// Whether the file of that number and rows has these bytes where it is written to a sink.
+fn writes(alloc: Global, number: u32, rows: u32, bytes: &[u8]) -> Option<bool> {
+    let mut sink = MemorySink::new(alloc, Vec::new(alloc), 100_000).ok()?;
+    let done = generate(alloc, number, rows, &mut sink).is_ok();
+    Some(done && sink.written() == Some(bytes))
+}
+
+/// Whether each handle of a made file has its name and its bytes.
+fn is_shared(made: &Made) -> Option<bool> {
+    let again = made.again().ok()?;
+    Some(again.bytes() == made.bytes() && again.name() == made.name())
+}
+
 /// Whether a file that is written to a sink has the bytes of a made one, and each handle of that the same.
 fn is_written(alloc: Global, number: u32, rows: u32) -> Option<bool> {
     let made = Made::new(alloc, number, rows).ok()?;
-    let again = made.again().ok()?;
-    let mut sink = MemorySink::new(alloc, Vec::new(alloc), 100_000).ok()?;
-    let done = generate(alloc, number, rows, &mut sink).is_ok();
-    Some(
-        done && sink.written() == Some(made.bytes())
-            && again.bytes() == made.bytes()
-            && again.name() == made.name(),
-    )
+    Some(writes(alloc, number, rows, made.bytes())? && is_shared(&made)?)
 }
 
 /// Files by their numbers and rows: none, one, a whole stripe, and one row more.

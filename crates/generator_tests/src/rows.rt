@@ -1,7 +1,7 @@
 //! Rows of generated files, and the plan over one.
 use generated_plan::{file_name, generated_plan};
 use generated_rows::row_at;
-use orc_values::ValueRef;
+use orc_values::{Value, ValueRef};
 use std::alloc::Global;
 
 /// The file's number, a row's index, and its values: id, even, city, note and qty.
@@ -96,15 +96,20 @@ const ROWS: [(u32, u32, [ValueRef<'static>; 5]); 8] = [
     ),
 ];
 
+/// Whether the values of a row are these.
+fn are_same(row: &[Value], values: &[ValueRef<'static>]) -> bool {
+    for (value, expected) in row.iter().zip(values.iter()) {
+        if !value.as_ref().is_same(*expected) {
+            return false;
+        }
+    }
+    true
+}
+
 /// Whether a row has these values.
 fn is_row(alloc: Global, number: u32, index: u32, values: &[ValueRef<'static>; 5]) -> Option<bool> {
     let row = row_at(alloc, number, index).ok()?;
-    for (value, expected) in row.iter().zip(values.iter()) {
-        if !value.as_ref().is_same(*expected) {
-            return Some(false);
-        }
-    }
-    Some(true)
+    Some(are_same(&row, values))
 }
 
 fn all_are_rows(alloc: Global) -> bool {

@@ -25,37 +25,49 @@ fn unread(alloc: Global) -> Option<MemorySource> {
     Some(MemorySource::new(plan, [1, 2].to_vec(alloc).ok()?))
 }
 
-/// Whether the run with these words, over that generated file or none, ends with that status and begins with that text.
-fn prints(alloc: Global, words: &[&str], made: Option<Made>, code: u8, text: &str) -> Option<bool> {
-    let mut source = unread(alloc)?;
+/// Whether the run with these words, over that plan and that store, ends with that status and begins with that text.
+pub fn prints(
+    alloc: Global,
+    words: &[&str],
+    source: &mut MemorySource,
+    store: &mut Generated<Under<'_>>,
+    code: u8,
+    text: &str,
+) -> Option<bool> {
     let mut sink = MemorySink::new(alloc, Vec::new(alloc), 2000).ok()?;
-    let mut store = Generated::new(Under::new("t.orc", &[]), made);
     let more = Vec::new(alloc);
     let status = llapd::<RealWorld, _, _, _, _>(
-        alloc,
-        words,
-        &mut source,
-        &mut store,
-        more,
-        &mut sink,
-        &OpenGate,
+        alloc, words, source, store, more, &mut sink, &OpenGate,
     );
     Some(status.code() == code && sink.written()?.starts_with(text.as_bytes()))
+}
+
+/// Whether it does over that generated file or none, beside an empty file.
+fn made_prints(
+    alloc: Global,
+    words: &[&str],
+    made: Option<Made>,
+    code: u8,
+    text: &str,
+) -> Option<bool> {
+    let mut store = Generated::new(Under::new("t.orc", &[]), made);
+    let mut source = unread(alloc)?;
+    prints(alloc, words, &mut source, &mut store, code, text)
 }
 
 fn large_is_printed(alloc: Global) -> Option<bool> {
     let made = Made::new(alloc, 7, 100_000).ok()?;
     let words = ["--gen", "7", "--rows", "100000", "--executors", "0"];
-    prints(alloc, &words, Some(made), 0, LARGE)
+    made_prints(alloc, &words, Some(made), 0, LARGE)
 }
 
 fn empty_is_printed(alloc: Global) -> Option<bool> {
     let made = Made::new(alloc, 0, 0).ok()?;
-    prints(alloc, &["--gen", "0", "--rows", "0"], Some(made), 0, EMPTY)
+    made_prints(alloc, &["--gen", "0", "--rows", "0"], Some(made), 0, EMPTY)
 }
 
 fn missing_is_printed(alloc: Global) -> Option<bool> {
-    prints(alloc, &["--gen", "7"], None, 1, MISSING)
+    made_prints(alloc, &["--gen", "7"], None, 1, MISSING)
 }
 
 #[test]

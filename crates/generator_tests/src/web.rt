@@ -7,11 +7,12 @@ ghost use Rattle.table_columns.specs.Tables.{AreChildren};
 ghost use Rattle.orc_writer.specs.Writing.{IsFresh, shapes};
 ghost use Rattle.generator_tests.specs.Web.{IsWeb, spec_of, web_columns};
 
+use crate::runs::prints;
 use crate::under::Under;
-use data_path::llapd;
+use generated_store::Generated;
 use orc_values::Value;
 use orc_writer::{ColumnSpec, OpaqueStream, Spelling, Writer};
-use outside::{Bytes, MemorySink, MemorySource, OpenGate, RealWorld};
+use outside::{Bytes, MemorySink, MemorySource};
 use std::alloc::Global;
 
 /// Bytes, copied.
@@ -147,15 +148,21 @@ fn with_row(alloc: Global, writer: Writer, index: u32) -> Option<Writer>
     }
 }
 
-/// The file of 20,000 requests, in two stripes.
-fn web_file(alloc: Global) -> Option<Vec<u8>> {
+/// The writer with 20,000 requests, in two stripes.
+fn filled(alloc: Global) -> Option<Writer> {
     let mut writer = begun(alloc)?;
     for index in 0..20_000 {
         writer = with_row(alloc, writer, index)?;
     }
+    Some(writer)
+}
+
+/// The file of these requests.
+fn web_file(alloc: Global) -> Option<MemorySink> {
+    let writer = filled(alloc)?;
     let mut sink = MemorySink::new(alloc, Vec::new(alloc), 1_000_000).ok()?;
     writer.finish(&mut sink).ok()?;
-    sink.written()?.to_vec(alloc).ok()
+    Some(sink)
 }
 
 const PLAN: &str =
@@ -163,22 +170,17 @@ const PLAN: &str =
 
 const PRINTED: &str = "g group 2\nnull\t2600\n\"/a\"\t2400\nk failed wrong kind score\n";
 
+/// Whether the plan over the file of these bytes is printed so.
+fn is_printed(alloc: Global, file: &[u8]) -> Option<bool> {
+    let mut store = Generated::new(Under::new("web.orc", file), None);
+    let mut source = MemorySource::new(bytes(alloc, PLAN)?, Vec::new(alloc));
+    let words = ["--executors", "0"];
+    prints(alloc, &words, &mut source, &mut store, 1, PRINTED)
+}
+
 fn web_is_printed(alloc: Global) -> Option<bool> {
     let file = web_file(alloc)?;
-    let mut source = MemorySource::new(bytes(alloc, PLAN)?, Vec::new(alloc));
-    let mut sink = MemorySink::new(alloc, Vec::new(alloc), 2000).ok()?;
-    let mut store = Under::new("web.orc", file.as_slice());
-    let more = Vec::new(alloc);
-    let status = llapd::<RealWorld, _, _, _, _>(
-        alloc,
-        &["--executors", "0"],
-        &mut source,
-        &mut store,
-        more,
-        &mut sink,
-        &OpenGate,
-    );
-    Some(status.code() == 1 && sink.written()?.starts_with(PRINTED.as_bytes()))
+    is_printed(alloc, file.written()?)
 }
 
 #[test]

@@ -3,7 +3,7 @@ ghost use Rattle.std.specs.Prelude.{◌≡◌, ◌+◌, ◌≤◌, ◌^◌, leng
 ghost use Rattle.orc_columns.specs.declared.spelling.Spelling.TheVariants as by;
 ghost use Rattle.column_writer.specs.Buffered.{MayStand};
 
-use column_writer::{ColumnBuffer, push_row};
+use column_writer::{ColumnBuffer, Encoded, push_row};
 use orc_columns::{Spelling, Value, Version};
 use outside::Bytes;
 use std::alloc::Global;
@@ -114,25 +114,35 @@ pub fn buffered(alloc: Global, spelling: Spelling, rows: &[i64]) -> Option<Colum
     Some(buffer)
 }
 
-/// Whether the streams of a column are those that are wanted.
-fn is_written(alloc: Global, row: &Row) -> Option<bool> {
+/// The streams of a column.
+fn encoded(alloc: Global, row: &Row) -> Option<Encoded> {
     if row.rows.len() > 100 {
         return None;
     }
-    let buffer = buffered(alloc, row.spelling, row.rows)?;
-    let encoded = buffer.encode(alloc).ok()?;
-    let front = encoded.present.as_slice() == row.streams[0]
-        && encoded.body.as_slice() == row.streams[1];
-    let back = encoded.lengths.as_slice() == row.streams[2]
-        && encoded.dictionary.as_slice() == row.streams[3];
-    Some(front && back && encoded.dictionary_size == row.size)
+    buffered(alloc, row.spelling, row.rows)?.encode(alloc).ok()
+}
+
+/// Whether they are those that are wanted.
+fn are_wanted(encoded: &Encoded, row: &Row) -> bool {
+    encoded.present.as_slice() == row.streams[0]
+        && encoded.body.as_slice() == row.streams[1]
+        && encoded.lengths.as_slice() == row.streams[2]
+        && encoded.dictionary.as_slice() == row.streams[3]
+        && encoded.dictionary_size == row.size
+}
+
+fn all_are_written(alloc: Global) -> Option<bool> {
+    for row in &ROWS {
+        if !are_wanted(&encoded(alloc, row)?, row) {
+            return Some(false);
+        }
+    }
+    Some(true)
 }
 
 #[test]
 fn columns_are_written(rt: HostRuntime) {
-    for row in &ROWS {
-        assert!(rt; is_written(rt.alloc(), row) == Some(true));
-    }
+    assert!(rt; all_are_written(rt.alloc()) == Some(true));
 }
 
 /// Columns with a row more, each of which had none: a flag, and a null.
@@ -145,10 +155,13 @@ fn with_row(alloc: Global, flags: ColumnBuffer, numbers: ColumnBuffer) -> Option
     Some(columns)
 }
 
-#[test]
-fn a_row_is_pushed(rt: HostRuntime) {
-    let alloc = rt.alloc();
+fn a_row_is_taken(alloc: Global) -> bool {
     let flags = ColumnBuffer::new(alloc, Spelling::Bits);
     let numbers = ColumnBuffer::new(alloc, Spelling::Integers(Version::Two));
-    assert!(rt; with_row(alloc, flags, numbers).is_some());
+    with_row(alloc, flags, numbers).is_some()
+}
+
+#[test]
+fn a_row_is_pushed(rt: HostRuntime) {
+    assert!(rt; a_row_is_taken(rt.alloc()));
 }

@@ -84,50 +84,93 @@ const ROWS: [Row; 11] = [
     },
 ];
 
-/// Whether both versions write the bytes that are wanted, and the decoders read the values from them.
-fn comes_back(alloc: Global, row: &Row) -> Option<bool> {
+/// A feed of the streams of both versions.
+fn feed_of(alloc: Global, row: &Row) -> Option<SliceFeed<'static>> {
+    Some(SliceFeed::new(vec![in alloc; row.one, row.two].ok()?))
+}
+
+/// Whether version 1 writes the bytes that are wanted.
+fn one_is_written(alloc: Global, row: &Row) -> Option<bool> {
     let one = write_integers1(alloc, row.signed, row.values).ok()?;
+    Some(one.as_slice() == row.one)
+}
+
+/// Whether version 2 does.
+fn two_is_written(alloc: Global, row: &Row) -> Option<bool> {
     let two = write_integers2(alloc, row.signed, row.values).ok()?;
-    let mut feed = SliceFeed::new(vec![in alloc; one.as_slice(), two.as_slice()].ok()?);
-    let mut first = vec![in alloc; 1i64; row.values.len()].ok()?;
-    let mut second = vec![in alloc; 1i64; row.values.len()].ok()?;
-    IntRuns1::new(0, row.signed)
-        .fill(&mut feed, &mut first)
-        .ok()?;
-    IntRuns2::new(1, row.signed)
-        .fill(&mut feed, &mut second)
-        .ok()?;
-    let read = first.as_slice() == row.values && second.as_slice() == row.values;
-    Some(read && one.as_slice() == row.one && two.as_slice() == row.two)
+    Some(two.as_slice() == row.two)
+}
+
+/// Whether the decoder of version 1 reads the values from its bytes.
+fn one_is_read(alloc: Global, row: &Row) -> Option<bool> {
+    let mut feed = feed_of(alloc, row)?;
+    let mut values = vec![in alloc; 1i64; row.values.len()].ok()?;
+    let read = IntRuns1::new(0, row.signed).fill(&mut feed, &mut values);
+    Some(read.is_ok() && values.as_slice() == row.values)
+}
+
+/// Whether the decoder of version 2 does.
+fn two_is_read(alloc: Global, row: &Row) -> Option<bool> {
+    let mut feed = feed_of(alloc, row)?;
+    let mut values = vec![in alloc; 1i64; row.values.len()].ok()?;
+    let read = IntRuns2::new(1, row.signed).fill(&mut feed, &mut values);
+    Some(read.is_ok() && values.as_slice() == row.values)
+}
+
+/// Whether both versions write the bytes that are wanted, and the decoders read the values from them.
+fn all_come_back(alloc: Global) -> Option<bool> {
+    for row in &ROWS {
+        let written = one_is_written(alloc, row)? && two_is_written(alloc, row)?;
+        if !written || !one_is_read(alloc, row)? || !two_is_read(alloc, row)? {
+            return Some(false);
+        }
+    }
+    Some(true)
 }
 
 #[test]
 fn integers_come_back(rt: HostRuntime) {
-    for row in &ROWS {
-        assert!(rt; comes_back(rt.alloc(), row) == Some(true));
-    }
+    assert!(rt; all_come_back(rt.alloc()) == Some(true));
 }
 
-/// A hundred zeros, two other bytes, and three flags, come back from the standard's streams.
-fn bytes_come_back(alloc: Global) -> Option<bool> {
-    let zeros = write_bytes(alloc, &[0; 100]).ok()?;
-    let others = write_bytes(alloc, b"\x44\x45").ok()?;
+/// A hundred zeros, two other bytes, and three flags, and the standard's streams of them.
+const ZEROS: &[u8] = b"\x61\x00";
+
+const OTHERS: &[u8] = b"\xFE\x44\x45";
+
+const FLAGS: &[u8] = b"\xFF\xA0";
+
+/// Whether these bytes are written as that stream.
+fn is_stream(alloc: Global, bytes: &[u8], stream: &[u8]) -> Option<bool> {
+    Some(write_bytes(alloc, bytes).ok()?.as_slice() == stream)
+}
+
+fn flags_are_written(alloc: Global) -> Option<bool> {
     let flags = write_bits(alloc, &[true, false, true]).ok()?;
-    let mut feed = SliceFeed::new(vec![in alloc;
-        zeros.as_slice(),
-        others.as_slice(),
-        flags.as_slice(),
-    ].ok()?);
+    Some(flags.as_slice() == FLAGS)
+}
+
+fn feed_of_bytes(alloc: Global) -> Option<SliceFeed<'static>> {
+    Some(SliceFeed::new(vec![in alloc; ZEROS, OTHERS, FLAGS].ok()?))
+}
+
+fn zeros_are_read(alloc: Global) -> Option<bool> {
+    let mut feed = feed_of_bytes(alloc)?;
     let mut bytes = [1; 100];
-    ByteRuns::new(0).fill(&mut feed, &mut bytes).ok()?;
+    let read = ByteRuns::new(0).fill(&mut feed, &mut bytes);
+    Some(read.is_ok() && bytes == [0; 100])
+}
+
+fn flags_are_read(alloc: Global) -> Option<bool> {
+    let mut feed = feed_of_bytes(alloc)?;
     let mut three = [false; 3];
-    Bits::new(2).fill(&mut feed, &mut three).ok()?;
-    let read = bytes == [0; 100] && three == [true, false, true];
-    Some(
-        read && zeros.as_slice() == b"\x61\x00".as_slice()
-            && others.as_slice() == b"\xFE\x44\x45".as_slice()
-            && flags.as_slice() == b"\xFF\xA0".as_slice(),
-    )
+    let read = Bits::new(2).fill(&mut feed, &mut three);
+    Some(read.is_ok() && three == [true, false, true])
+}
+
+fn bytes_come_back(alloc: Global) -> Option<bool> {
+    let written = is_stream(alloc, &[0; 100], ZEROS)? && is_stream(alloc, b"\x44\x45", OTHERS)?;
+    Some(written && flags_are_written(alloc)? && zeros_are_read(alloc)? && flags_are_read(alloc)?)
 }
 
 #[test]
@@ -135,20 +178,23 @@ fn bytes_and_bits_come_back(rt: HostRuntime) {
     assert!(rt; bytes_come_back(rt.alloc()) == Some(true));
 }
 
-/// How many bytes the streams of version 2 have: of 512 numbers from 7 on, and of 512 that go round from 0 to 4.
-fn sizes(alloc: Global) -> Option<(usize, usize)> {
-    let mut rising = Vec::new(alloc);
-    let mut round = Vec::new(alloc);
+/// 512 numbers from 7 on, or 512 that go round from 0 to 4.
+fn numbers(alloc: Global, rising: bool) -> Option<Vec<i64>> {
+    let mut numbers = Vec::new(alloc);
     for i in 0..512i64 {
-        rising.push(i + 7).ok()?;
-        round.push(i % 5).ok()?;
+        numbers.push(if rising { i + 7 } else { i % 5 }).ok()?;
     }
-    let rising = write_integers2(alloc, true, &rising).ok()?;
-    let round = write_integers2(alloc, false, &round).ok()?;
-    Some((rising.len(), round.len()))
+    Some(numbers)
+}
+
+/// How many bytes the stream of version 2 has of these.
+fn size(alloc: Global, rising: bool) -> Option<usize> {
+    let numbers = numbers(alloc, rising)?;
+    Some(write_integers2(alloc, rising, &numbers).ok()?.len())
 }
 
 #[test]
 fn equal_steps_are_one_run(rt: HostRuntime) {
-    assert!(rt; sizes(rt.alloc()) == Some((4, 194)));
+    let alloc = rt.alloc();
+    assert!(rt; size(alloc, true) == Some(4) && size(alloc, false) == Some(194));
 }

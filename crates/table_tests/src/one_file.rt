@@ -16,11 +16,17 @@ fn outcome_of<W: World, S: Store<W>>(alloc: Global, store: &mut S, plan: &Plan) 
 }
 
 /// What is printed of a plan's first fragment, which scans the file of these bytes.
-pub fn scanned(alloc: Global, bytes: &[u8], plan: &str) -> Option<MemorySink> {
+fn scanned(alloc: Global, bytes: &[u8], plan: &str) -> Option<MemorySink> {
     let plan = read_plan(alloc, plan.as_bytes()).ok()?;
     let mut store = OneFile::new(alloc, bytes, usize::MAX);
     let outcome = outcome_of::<RealWorld, _>(alloc, &mut store, &plan)?;
     let mut sink = MemorySink::new(alloc, Vec::new(alloc), 400).ok()?;
     write_result(&plan, 0, &outcome, &mut sink).ok()?;
     Some(sink)
+}
+
+/// Whether that is printed of it.
+pub fn prints(alloc: Global, bytes: &[u8], plan: &str, text: &[u8]) -> Option<bool> {
+    let printed = scanned(alloc, bytes, plan)?;
+    Some(printed.written()? == text)
 }

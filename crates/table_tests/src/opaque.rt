@@ -2,11 +2,11 @@
 ghost use Rattle.std.specs.Prelude.{◌≤◌, All, IfSome};
 ghost use Rattle.orc_writer.specs.Writing.{IsFresh};
 
-use crate::one_file::scanned;
-use crate::writers::{made, push, writer_of};
+use crate::one_file::prints;
+use crate::writers::{Column, made, push, writer_of};
 use orc_columns::Value;
 use orc_writer::{OpaqueStream, Spelling, Writer};
-use outside::{Bytes, NoMemory};
+use outside::{Bytes, MemorySink, NoMemory};
 use std::alloc::Global;
 
 /// Two stripes of two rows and one. Each has DATA of the column 1, then PRESENT of the LIST 2 and DATA of its child 3, then DATA of the
@@ -27,6 +27,11 @@ const PRINTED: &[u8] = b"r rows 3
 const ONE_PRINTED: &[u8] = b"r rows 1
 1
 ";
+
+/// The columns beside it, and their rows.
+const COLUMNS: [Column; 2] = [(b"a", 4, Spelling::Direct), (b"c", 4, Spelling::Direct)];
+
+const ROWS: [(i64, i64); 3] = [(1, 3), (2, 4), (5, 6)];
 
 /// A stream of the column, or of its only child.
 fn stream_of(alloc: Global, kind: u64, child: u32, bytes: &[u8]) -> Option<OpaqueStream>
@@ -75,31 +80,40 @@ fn push_row_or_list(alloc: Global, writer: &mut Writer, row: &[Value]) -> Option
     }
 }
 
+/// Adds the three rows.
+fn push_rows(writer: &mut Writer) -> Option<()> {
+    for (first, second) in &ROWS {
+        push(writer, &[Value::Int(*first), Value::Int(*second)])?;
+    }
+    Some(())
+}
+
+/// The file of two columns and the LIST between them.
+fn file_of(alloc: Global) -> Option<MemorySink> {
+    let mut writer = writer_of(alloc, &COLUMNS, 2)?;
+    push_list(alloc, &mut writer)?;
+    push_rows(&mut writer)?;
+    made(alloc, writer)
+}
+
 /// Whether its streams stand in each stripe, and the rows beside it are read back.
 fn is_kept(alloc: Global) -> Option<bool> {
-    let columns = [
-        (b"a".as_slice(), 4, Spelling::Direct),
-        (b"c", 4, Spelling::Direct),
-    ];
-    let mut writer = writer_of(alloc, &columns, 2)?;
-    push_list(alloc, &mut writer)?;
-    for first in [1, 2, 5] {
-        let second = if first == 5 { 6 } else { first + 2 };
-        push(&mut writer, &[Value::Int(first), Value::Int(second)])?;
-    }
-    let file = made(alloc, writer)?;
+    let file = file_of(alloc)?;
     let bytes = file.written()?;
-    let printed = scanned(alloc, bytes, "r rows a,c from t.orc")?;
-    Some(bytes.starts_with(FILE) && printed.written()? == PRINTED)
+    Some(bytes.starts_with(FILE) && prints(alloc, bytes, "r rows a,c from t.orc", PRINTED)?)
+}
+
+/// The file of one column with one row, or with none and the LIST.
+fn one_row(alloc: Global) -> Option<MemorySink> {
+    let mut writer = writer_of(alloc, &[(b"a", 4, Spelling::Direct)], 2)?;
+    push_row_or_list(alloc, &mut writer, &[Value::Int(1)])?;
+    made(alloc, writer)
 }
 
 /// Whether a first row stands alone where it isn't refused.
 fn is_alone(alloc: Global) -> Option<bool> {
-    let mut writer = writer_of(alloc, &[(b"a", 4, Spelling::Direct)], 2)?;
-    push_row_or_list(alloc, &mut writer, &[Value::Int(1)])?;
-    let file = made(alloc, writer)?;
-    let printed = scanned(alloc, file.written()?, "r rows a from t.orc")?;
-    Some(printed.written()? == ONE_PRINTED)
+    let file = one_row(alloc)?;
+    prints(alloc, file.written()?, "r rows a from t.orc", ONE_PRINTED)
 }
 
 #[test]
