@@ -99,7 +99,7 @@ answers_complete V S P files plan before after PlanFault all s p a = absurd (p a
 answers_complete V S P files plan before after NoMemory all s p a = inl (refl, a)
 
 module _ (quiet : QuietRunsMeanThePlan) where
-  prints_whole : (told : Option Files) (T : CacheTotals → Type 0) (f g : ℕ) (r r' : Option (List FileRange)) (U : Type 0) (bytes : List ℕ) (files : Files) (plan : List Fragment) → told ≡ Some files → plan_of bytes ≡ Ok plan → ¬ Rose f g
+  prints_whole : (told : Option Files) (T : List Fragment → List Outcome → CacheTotals → Type 0) (f g : ℕ) (r r' : Option (List FileRange)) (U : Type 0) (bytes : List ℕ) (files : Files) (plan : List Fragment) → told ≡ Some files → plan_of bytes ≡ Ok plan → ¬ Rose f g
       → (status : Status) (text : List ℕ) → Prints told T f g r r' U bytes status text → AreWhole files plan status text
   prints_whole told T f g r r' U bytes files plan e is quiet_store status text (bad_plan fault untouched) = absurd cc
   prints_whole told T f g r r' U bytes files plan e is quiet_store status text (ran {plan = other} {outcomes} {totals} read run counted through) =
@@ -107,7 +107,7 @@ module _ (quiet : QuietRunsMeanThePlan) where
       let means = quiet told f g other outcomes files run e quiet_store in
       (outcomes, subst (λ (p : List Fragment). PlanMeans files p outcomes) same means, refl, (totals, ap (λ (p : List Fragment). run_text p outcomes totals) same))
 
-  pub completes_alone : (told : Option Files) (T : CacheTotals → Type 0) (f g : ℕ) (r r' : Option (List FileRange)) (U : Type 0) (S : Type 0) (bytes : List ℕ) (before after : Option (List ℕ)) (result : Status)
+  pub completes_alone : (told : Option Files) (T : List Fragment → List Outcome → CacheTotals → Type 0) (f g : ℕ) (r r' : Option (List FileRange)) (U : Type 0) (S : Type 0) (bytes : List ℕ) (before after : Option (List ℕ)) (result : Status)
       → Answers (Prints told T f g r r' U bytes) S ⊥ before after result → CompletesAlone told (Rose f g) S bytes before after result
   completes_alone told T f g r r' U S bytes before after result a files plan e is quiet_store none =
       answers_complete (Prints told T f g r r' U bytes) S ⊥ files plan before after result (prints_whole told T f g r r' U bytes files plan e is quiet_store) none (λ x. x) a
@@ -121,7 +121,7 @@ module _ (quiet : QuietRunsMeanThePlan) where
       let some = asked.generated in
       cc
 
-  writes_whole : (one : WordsMeanOneThing) (call : Call) (T : Options → CacheTotals → Type 0) (U V : Type 0) (files : Files) (options : Options) (all : List ℕ) (plan : List Fragment) → AreGood call.words options
+  writes_whole : (one : WordsMeanOneThing) (call : Call) (T : Options → List Fragment → List Outcome → CacheTotals → Type 0) (U V : Type 0) (files : Files) (options : Options) (all : List ℕ) (plan : List Fragment) → AreGood call.words options
       → call.left ≡ Some all → plan_of all ≡ Ok plan → call.told ≡ Some files → ¬ Rose call.store_faults call.store_faults'
       → (status : Status) (text : List ℕ) → Writes call T U V status text → AreWhole files plan status text
   writes_whole one call T U V files options all plan good left is told quiet_store status text (usage bad u v) =
@@ -131,7 +131,7 @@ module _ (quiet : QuietRunsMeanThePlan) where
   writes_whole one call T U V files options all plan good left is told quiet_store status text (made {options = others} {number} asked u prints) =
       absurd (one_or_other one call.words options others number good asked)
 
-  pub completes : (one : WordsMeanOneThing) (call : Call) (T : Options → CacheTotals → Type 0) (U V : Type 0) (S : Type 0) (before after : Option (List ℕ)) (result : Status)
+  pub completes : (one : WordsMeanOneThing) (call : Call) (T : Options → List Fragment → List Outcome → CacheTotals → Type 0) (U V : Type 0) (S : Type 0) (before after : Option (List ℕ)) (result : Status)
       → Answers (Writes call T U V) S (IsUnread call V) before after result → Completes call S before after result
   completes one call T U V S before after result a files options all plan good left is told quiet_plan quiet_store none =
       answers_complete (Writes call T U V) S (IsUnread call V) files plan before after result (writes_whole one call T U V files options all plan good left is told quiet_store)
@@ -147,7 +147,7 @@ module _ (quiet : QuietRunsMeanThePlan) where
       let few : number ≤ 1000000 = in_range in
       read number options.rows (omega (arith, few)) (omega (arith, asked.options_are.in_range.rows))
 
-  writes_generated : (one : WordsMeanOneThing) (read : GeneratedPlansAreRead) (call : Call) (T : Options → CacheTotals → Type 0) (U V : Type 0) (files : Files) (options : Options) (number : ℕ)
+  writes_generated : (one : WordsMeanOneThing) (read : GeneratedPlansAreRead) (call : Call) (T : Options → List Fragment → List Outcome → CacheTotals → Type 0) (U V : Type 0) (files : Files) (options : Options) (number : ℕ)
       → AreGenerated call.words options number → call.told ≡ Some files → ¬ Rose call.store_faults call.store_faults'
       → (status : Status) (text : List ℕ) → Writes call T U V status text → AreWhole files (plan_over (file_name number options.rows) number) status text
   writes_generated one read call T U V files options number asked told quiet_store status text (usage bad u v) =
@@ -164,7 +164,7 @@ module _ (quiet : QuietRunsMeanThePlan) where
       (subst (λ (bytes : List ℕ). plan_of bytes ≡ Ok (plan_over (file_name number options.rows) number)) bytes_are (generated_is read call.words options number asked))
       quiet_store status text prints
 
-  pub completes_generated : (one : WordsMeanOneThing) (read : GeneratedPlansAreRead) (call : Call) (T : Options → CacheTotals → Type 0) (U V : Type 0) (S : Type 0) (before after : Option (List ℕ))
+  pub completes_generated : (one : WordsMeanOneThing) (read : GeneratedPlansAreRead) (call : Call) (T : Options → List Fragment → List Outcome → CacheTotals → Type 0) (U V : Type 0) (S : Type 0) (before after : Option (List ℕ))
       (result : Status) → Answers (Writes call T U V) S (IsUnread call V) before after result → CompletesGenerated call S before after result
   completes_generated one read call T U V S before after result a files options number asked told quiet_store none =
       answers_complete (Writes call T U V) S (IsUnread call V) files (plan_over (file_name number options.rows) number) before after result
@@ -172,7 +172,7 @@ module _ (quiet : QuietRunsMeanThePlan) where
       (λ unread. one_or_other one call.words unread.options options number unread.good asked) a
 
 -- what a chosen plan's bytes print is what there is to write
-pub chosen_writes : (call : Call) (T : Options → CacheTotals → Type 0) (U V : Type 0) (options : Options) (bytes : List ℕ) → AreOptionsOf call.words options
+pub chosen_writes : (call : Call) (T : Options → List Fragment → List Outcome → CacheTotals → Type 0) (U V : Type 0) (options : Options) (bytes : List ℕ) → AreOptionsOf call.words options
     → ChosenPlan options call.left call.left' U bytes → (status : Status) (text : List ℕ)
     → PrintsIn call (T options) V bytes status text → Writes call T U V status text
 chosen_writes call T U V options bytes are (stored none took) status text prints = planned (record { options_are = are; stored = none }) took prints

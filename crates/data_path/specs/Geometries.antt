@@ -1,5 +1,5 @@
 -- The cache that a run goes through. Source: this project's own.
-use Rattle.std.specs.Prelude.{◌≡◌, ℕ, List, [], length, Option, None, Some, replicate}
+use Rattle.std.specs.Prelude.{◌≡◌, ℕ, List, [], length, Option, None, Some, Ok, replicate}
 use Rattle.pool_model.specs.Content.{Files}
 use Rattle.pool_rule.specs.declared.geometry.Geometry.{Geometry}
 use Rattle.pool_rule.specs.Layout.{headers_of}
@@ -12,8 +12,13 @@ use Rattle.command_line.specs.declared.settings.Options.{Options}
 use Rattle.range_cache.specs.declared.cache.Cache.{Cache}
 use Rattle.range_cache.specs.Caches.{half_life_of, pool_of}
 use Rattle.evicting_fetch.specs.Evictors.{policy_of}
+use Rattle.fragment_plan.specs.declared.fragment.Fragment.{Fragment}
+use Rattle.fragment_plan.specs.declared.fragment.Scan.{Scan}
+use Rattle.fragment_outcome.specs.declared.outcome.Outcome.{Outcome}
+use Rattle.fragment_folds.specs.Scans.{scan_at}
 use Rattle.held_ranges.specs.Counts.{AreStepsCounted}
-use Rattle.scan_inline.specs.Through.{Log, RanThrough, Standing}
+use Rattle.plan_run.specs.Scanned.{AreSteps}
+use Rattle.scan_inline.specs.Through.{Log, ScansThrough, Standing}
 use Rattle.data_path.specs.RunText.{no_totals}
 
 -- the options' sizes
@@ -38,14 +43,25 @@ pub record IsNewFor {W : Type 0} (options : Options) (log : Log) (cache : Cache 
   pub reads : s.reads ≡ log
   pub totals : s.totals ≡ no_totals
 
--- The counts are those of deeds through a cache that was new for the options: from a new seat, a new policy, the store's reads before the
--- run and no count to a seat, a policy, the store's reads after it and these counts. They are counted of the seat's steps.
-pub record IsThrough (W : Type 0) (files : Option Files) (log log' : Log) (options : Options) (totals : CacheTotals) : Type 0 where
+-- a fragment that is a scan was scanned through that cache, with that outcome
+abbrev pub ScansAt : {W : Type 0} → Option Files → Cache W → Standing W → List Fragment → ℕ → Outcome → Standing W → Type 0
+ScansAt files cache old plan number o new =
+    (scan : Scan) → scan_at plan number ≡ Some scan → ScansThrough files cache scan old new (Ok o)
+
+-- The fragments of a plan from a number on had these outcomes, one after the other: each scan by acts and deeds through that cache.
+abbrev pub RunsThrough : {W : Type 0} → Option Files → Cache W → List Fragment → ℕ → List Outcome → Standing W → Standing W → Type 0
+RunsThrough files cache plan number outcomes old new = AreSteps (ScansAt files cache) plan number outcomes old new
+
+-- The counts are those that the scans of a plan, with these outcomes, had at their end: through a cache that was new for the options, and
+-- from a new seat, a new policy, the store's reads before the run and no count on to the store's reads after it. They are counted of the
+-- seat's steps.
+pub record IsThrough (W : Type 0) (files : Option Files) (log log' : Log) (options : Options) (plan : List Fragment)
+    (outcomes : List Outcome) (totals : CacheTotals) : Type 0 where
   pub cache : Cache W
   pub first : Standing W
   pub last : Standing W
   pub made : IsNewFor options log cache first
-  pub ran : RanThrough files cache first last
+  pub ran : RunsThrough files cache plan 0 outcomes first last
   pub steps : AreStepsCounted files (pool_of cache) first.seat last.seat no_totals totals
   pub reads : last.reads ≡ log'
   pub totals_are : last.totals ≡ totals

@@ -27,13 +27,13 @@ use Rattle.data_path.specs.Usage.{AreBad, AreGenerated, AreGood}
 
 -- What a run of a plan's bytes has to write, and its status where the sink takes it: the line of the plan's first fault, and then the
 -- store is as it was; or the results of its fragments, in plan order, and then the line of the cache, whose counts are those of the
--- store's reads, and of a run through a cache of that kind.
-pub data Prints (told : Option Files) (Through : CacheTotals → Type 0) (faults faults' : ℕ) (reads reads' : Option (List FileRange))
-    (untouched : Type 0) (bytes : List ℕ) : Status → List ℕ → Type 0 where
+-- store's reads, and those of the plan's scans through a cache.
+pub data Prints (told : Option Files) (Through : List Fragment → List Outcome → CacheTotals → Type 0) (faults faults' : ℕ)
+    (reads reads' : Option (List FileRange)) (untouched : Type 0) (bytes : List ℕ) : Status → List ℕ → Type 0 where
   bad_plan : {line : ℕ} {kind : PlanKind} → plan_of bytes ≡ Err (line, kind) → untouched
       → Prints told Through faults faults' reads reads' untouched bytes BadPlan (fault_text line kind)
   ran : {plan : List Fragment} {outcomes : List Outcome} {totals : CacheTotals} → plan_of bytes ≡ Ok plan
-      → HasRun told faults faults' plan outcomes → AreTotals reads reads' totals → Through totals
+      → HasRun told faults faults' plan outcomes → AreTotals reads reads' totals → Through plan outcomes totals
       → Prints told Through faults faults' reads reads' untouched bytes (status_of outcomes) (run_text plan outcomes totals)
 
 -- ---- answers, by what there is to write
@@ -75,15 +75,15 @@ pub record Call : Type 0 where
   pub store_reads' : Option (List FileRange)
 
 -- what a run of these bytes in a call has to write
-abbrev pub PrintsIn : Call → (CacheTotals → Type 0) → Type 0 → List ℕ → Status → List ℕ → Type 0
+abbrev pub PrintsIn : Call → (List Fragment → List Outcome → CacheTotals → Type 0) → Type 0 → List ℕ → Status → List ℕ → Type 0
 PrintsIn call Through store_untouched bytes =
     Prints call.told Through call.store_faults call.store_faults' call.store_reads call.store_reads' store_untouched bytes
 
 -- What a call has to write, and its status where the sink takes it: the usage line at words that are no command line, and then source
 -- and store are as they were; or what the plan's bytes print, which are read from the source, or are those of a generated file, and
--- then the source is as it was. `Through` says what counts a run with those options has.
-pub data Writes (call : Call) (Through : Options → CacheTotals → Type 0) (source_untouched store_untouched : Type 0) :
-    Status → List ℕ → Type 0 where
+-- then the source is as it was. `Through` says what counts a run of a plan with those options and outcomes has.
+pub data Writes (call : Call) (Through : Options → List Fragment → List Outcome → CacheTotals → Type 0)
+    (source_untouched store_untouched : Type 0) : Status → List ℕ → Type 0 where
   usage : AreBad call.words → source_untouched → store_untouched → Writes call Through source_untouched store_untouched Usage usage_text
   planned : {options : Options} {bytes : List ℕ} {status : Status} {text : List ℕ} → AreGood call.words options
       → TookPlan call.left call.left' bytes → PrintsIn call (Through options) store_untouched bytes status text

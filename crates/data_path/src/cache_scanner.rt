@@ -85,11 +85,13 @@ impl<'a, W: World, S: Store<W>> CacheScanner<'a, W, S> {
 }
 
 impl<'a, W: World, S: Store<W>> Scanner<W> for CacheScanner<'a, W, S> {
-    ghost use Rattle.data_path.specs.Scanners.{IsSameScanner, same_on, same_scanner};
+    ghost use Rattle.data_path.specs.Scanners.{HasScanned, IsSameScanner, same_on, same_scanner};
 
     ghost fault_count = { λ r. S.fault_count r.store.now };
 
     ghost same = { λ first last. IsSameScanner W.files S.reads first last };
+
+    ghost scanned = { λ first plan number o last. HasScanned W.files S.reads first plan number o last };
 
     ghost same_as_itself = { λ r. same_scanner W.files S.reads r };
 

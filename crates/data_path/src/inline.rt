@@ -11,12 +11,12 @@ ghost use Rattle.io_elevator.specs.Scratch.{IsFreshFor};
 ghost use Rattle.fragment_plan.specs.Plan.{plan_of};
 ghost use Rattle.command_line.specs.Options.{AreInRange};
 ghost use Rattle.plan_run.specs.Run.{HasRun};
-ghost use Rattle.data_path.specs.Geometries.{IsThrough, geometry_of};
+ghost use Rattle.data_path.specs.Geometries.{IsThrough, RunsThrough, geometry_of};
 ghost use Rattle.data_path.specs.Headline.{Answers, CompletesAlone, Prints};
 ghost use Rattle.data_path.specs.RunText.{AreTotals};
 ghost use Rattle.held_ranges.specs.Counts.{AreStepsCounted};
 ghost use Rattle.scan_inline.specs.Counts.{AreCounted};
-ghost use Rattle.scan_inline.specs.Through.{RanThrough, standing};
+ghost use Rattle.scan_inline.specs.Through.{standing};
 
 use crate::cache_scanner::CacheScanner;
 use crate::faulty_plan::fault_line;
@@ -81,8 +81,8 @@ fn run_through<W: World, S: Store<W>>(
     ensures run { IfOk result (HasRun W.files (S.fault_count last.old) (S.fault_count last.new) plan.now) }
     ensures counted { AreCounted (S.reads last.old) (S.reads last.new) totals.old totals.new }
     ensures steps { AreStepsCounted W.files (pool_of cache.now) seat.old seat.new totals.old totals.new }
-    ensures ran { RanThrough W.files cache.now (standing seat.old evictor.old (S.reads last.old) totals.old)
-        (standing seat.new evictor.new (S.reads last.new) totals.new) }
+    ensures ran { IfOk result (λ outcomes. RunsThrough W.files cache.now plan.now 0 outcomes
+        (standing seat.old evictor.old (S.reads last.old) totals.old) (standing seat.new evictor.new (S.reads last.new) totals.new)) }
 {
     let mut scanner = CacheScanner::new(cache, seat, evictor, last, scratch, totals);
     run_plan(alloc, plan, &mut scanner)
@@ -99,7 +99,8 @@ fn run_over<W: World, S: Store<W>>(
     requires in_range { AreInRange options.now }
     ensures run { IfOk result (λ r. HasRun W.files (S.fault_count last.old) (S.fault_count last.new) plan.now r.0) }
     ensures counted { IfOk result (λ r. AreTotals (S.reads last.old) (S.reads last.new) r.1) }
-    ensures through { IfOk result (λ r. IsThrough W W.files (S.reads last.old) (S.reads last.new) options.now r.1) }
+    ensures through { IfOk result (λ r. IsThrough W W.files (S.reads last.old) (S.reads last.new) options.now
+        plan.now r.0 r.1) }
 {
     let (cache, mut seat) = match cache_for(alloc, options) {
         Ok(made) => made,
@@ -137,10 +138,10 @@ fn run_over<W: World, S: Store<W>>(
 /// before the plan runs, and lets go; those of threads aren't used yet.
 ///
 /// Bytes that are no plan write the line of their first fault: `BadPlan`, and the store is as it was. Else the results of all
-/// fragments are written, in plan order, and then the line of the cache. Its hits, fills and evictions are those of the steps of a seat
-/// of that cache; where the store tells its reads, its fills and bypasses are as many as it read; each unless a count stands at its last
-/// value. Where the world tells its files, what is written is what the fragments mean, but for at most as many scans with a read fault as
-/// the faults of `last` rose by. `Done` where no fragment failed, else `SomeFailed`.
+/// fragments are written, in plan order, and then the line of the cache. Its counts are those of the plan's scans, each by its acts and by
+/// deeds that fit them, from that cache on, which is new; where the store tells its reads, its fills and bypasses are as many as it read,
+/// unless one of the two stands at its last value. Where the world tells its files, what is written is what the fragments mean, but for at
+/// most as many scans with a read fault as the faults of `last` rose by. `Done` where no fragment failed, else `SomeFailed`.
 /// `WriteFault` only where the sink's faults rose, and a front of the text was written. After `NoMemory` nothing was written.
 /// It never answers `Usage` or `PlanFault`.
 pub fn alone<W: World, S: Store<W>, K: Sink>(

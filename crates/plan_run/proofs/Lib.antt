@@ -5,3 +5,4 @@ pub mod Begun
 pub mod Quiet
 pub mod ShortPlans
 pub mod Sending
+pub mod Stepping

@@ -5,3 +5,4 @@ pub mod Steps
 pub mod Merges
 pub mod Output
 pub mod Laws
+pub mod Scanned

@@ -3,6 +3,7 @@ ghost use Rattle.std.specs.Prelude.{◌≡◌, ◌<◌, ◌≤◌, [], ◌∷◌
 ghost use Rattle.outside.specs.Cause.{Cause};
 ghost use Rattle.fragment_plan.specs.Bounds.{AllInBounds};
 ghost use Rattle.plan_run.specs.Run.{HasRun, read_fault};
+ghost use Rattle.plan_run.specs.Scanned.{AreSteps, IsStep};
 ghost use Rattle.plan_run.specs.Steps.{IsRun};
 ghost use Rattle.plan_run.specs.Words.{HasWords};
 
@@ -34,6 +35,7 @@ fn run_fragment<W: World, R: Scanner<W>>(
     ensures ran { IfOk result (IsRun W.files plan.now number before.now) }
     ensures worded { IfOk result (HasWords (length plan.now)) }
     ensures same { R.same scanner.old scanner.new }
+    ensures step { IfOk result (λ o. IsStep R.scanned plan.now number o scanner.old scanner.new) }
     ensures cause { Cause (R.fault_count scanner.old) (R.fault_count scanner.new) (result ≡ Ok read_fault) }
 {
     match &plan.fragments()[number as usize].work {
@@ -56,7 +58,8 @@ fn with_outcome(outcomes: Vec<Outcome>, outcome: Outcome) -> Result<Vec<Outcome>
 /// Runs a plan: its scans by the scanner, and its merges by the outcomes of their sources.
 ///
 /// Where the world tells its files, the outcomes are those of the plan's fragments, where just the scans that end in a read fault
-/// weren't read; and there are at most as many of these as the scanner's count of faults rose by. Refuses only for want of memory.
+/// weren't read; and there are at most as many of these as the scanner's count of faults rose by. The scanner scanned for each fragment
+/// that is a scan, in plan order, and nothing else. Refuses only for want of memory.
 pub fn run_plan<W: World, R: Scanner<W>>(
     alloc: Global,
     plan: &Plan,
@@ -65,6 +68,7 @@ pub fn run_plan<W: World, R: Scanner<W>>(
     ensures run { IfOk result (HasRun W.files (R.fault_count scanner.old) (R.fault_count scanner.new) plan.now) }
     ensures later { R.fault_count scanner.old ≤ R.fault_count scanner.new }
     ensures same { R.same scanner.old scanner.new }
+    ensures steps { IfOk result (λ outcomes. AreSteps R.scanned plan.now 0 outcomes scanner.old scanner.new) }
 {
     let count = fragment_count(plan);
     let mut outcomes = Vec::new(alloc);

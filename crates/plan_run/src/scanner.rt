@@ -1,6 +1,8 @@
 //! Whoever scans.
-ghost use Rattle.std.specs.Prelude.{◌≡◌, ℕ, Ok, IfOk, IsSome};
+ghost use Rattle.std.specs.Prelude.{◌≡◌, ℕ, List, Ok, IfOk, IsSome};
 ghost use Rattle.outside.specs.Cause.{Cause};
+ghost use Rattle.fragment_plan.specs.declared.fragment.Fragment.{Fragment};
+ghost use Rattle.fragment_outcome.specs.declared.outcome.Outcome.{Outcome};
 ghost use Rattle.fragment_folds.specs.Scans.{scan_at};
 ghost use Rattle.plan_run.specs.Run.{IsScanned, read_fault};
 ghost use Rattle.plan_run.specs.Words.{ScanHasWords};
@@ -18,6 +20,9 @@ pub trait Scanner<W: World> {
     /// It works with the same things: whoever lent them knows them again by this.
     ghost same: { Self → Self → Type 0 };
 
+    /// It scanned for that fragment of that plan, with that outcome: what it did, from before to after.
+    ghost scanned: { Self → List Fragment → ℕ → Outcome → Self → Type 0 };
+
     /// Scans a file for a fragment of a plan, which is a scan, and answers what becomes of it.
     ///
     /// Where the world tells its files, it is what the scan means, unless it is a read fault. A read fault comes only where
@@ -27,6 +32,7 @@ pub trait Scanner<W: World> {
         ensures means { IfOk result (IsScanned W.files plan.now fragment) }
         ensures worded { IfOk result ScanHasWords }
         ensures same { same self.old self.new }
+        ensures scanned { IfOk result (λ o. scanned self.old plan.now fragment o self.new) }
         ensures cause { Cause (fault_count self.old) (fault_count self.new) (result ≡ Ok read_fault) };
 
     /// Where nothing was done, it works with the same things.

@@ -76,7 +76,7 @@ means_there : (files : Files) (scan : Scan) (file : FileRef) (bytes : List ℕ) 
 means_there files scan file bytes o named has is =
     subst (λ (b : Option (List ℕ)). IsOutcomeOn scan b o) (sym (ap (λ (f : Option FileRef). bytes_at files f) (sym named) ∙ has.bytes_are)) is
 
-same_scan : (o : Option Scan) (a b : Scan) → o ≡ Some a → o ≡ Some b → a ≡ b
+pub same_scan : (o : Option Scan) (a b : Scan) → o ≡ Some a → o ≡ Some b → a ≡ b
 same_scan o a b is also = some_is (sym is ∙ also)
 
 -- an outcome of a file that was found is what the scan means

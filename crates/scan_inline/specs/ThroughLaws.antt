@@ -1,6 +1,6 @@
--- What scans do, one after the other. Source: this project's own.
-use Rattle.std.proofs.Common.{◌≡◌, ℕ, List, [], ◌∷◌, refl, sym, ap, ◌∙◌, subst}
-use Rattle.std.specs.Prelude.{Option, ◌++◌}
+-- How deeds of an elevator are those of a scan. Source: this project's own.
+use Rattle.std.proofs.Common.{◌≡◌, List, [], ◌∷◌, refl, sym, ap, ◌∙◌, subst}
+use Rattle.std.specs.Prelude.{Option}
 use Rattle.pool_model.specs.Content.{Files}
 use Rattle.buffer_pool.specs.declared.seat.PoolSeat.{PoolSeat}
 use Rattle.ledgers.specs.declared.cache_totals.CacheTotals.{CacheTotals}
@@ -102,13 +102,9 @@ module _ (files : Option Files) {W S : Type 0} (reads : S → Log) where
         totals = d.totals;
       }
 
-  -- where nothing was done
-  pub through_none : (d : Desk W S) (s : Standing W) → RanThrough files d.cache.now s s
-  through_none d s = record { desk = told_desk d; cache_is = refl; deeds = []; ran = refl }
-
   -- where deeds led from nothing held to nothing held
   pub through_ran : (ds : List Deed) (m k : Moment W S) → m.slots ≡ no_slots → k.slots ≡ no_slots → Ran files reads m ds k
-      → RanThrough files m.desk.cache.now (standing_at m) (standing_at k)
+      → RanThrough files m.desk.cache.now ds (standing_at m) (standing_at k)
   through_ran ds m k e f r =
       let d = told_desk m.desk in
       let first : Slots → Moment W Log = λ slots. moment (at_desk d (standing_at m)).desk slots in
@@ -117,27 +113,8 @@ module _ (files : Option Files) {W S : Type 0} (reads : S → Log) where
       record {
         desk = d;
         cache_is = refl;
-        deeds = ds;
         ran = subst (λ (x : Slots). Ran files told (first no_slots) ds (last x)) f begun;
       }
-
-ran_on : (files : Option Files) {W : Type 0} (ds es : List Deed) (m k n : Moment W Log) → Ran files told m ds k → Ran files told k es n
-    → Ran files told m (ds ++ es) n
-ran_on files {W} [] es m k n e r = subst (λ (x : Moment W Log). Ran files told x es n) e r
-ran_on files {W} (d ∷ ds) es m k n r s = (r.0, r.1, ran_on files ds es r.0 k n r.2 s)
-
--- where one scan follows another
-pub through_then : (files : Option Files) {W : Type 0} (cache : Cache W) (a b c : Standing W) → RanThrough files cache a b
-    → RanThrough files cache b c → RanThrough files cache a c
-through_then files cache a b c p q =
-    let d = p.desk in
-    let more = ran_seen files told d q.deeds (at_desk q.desk b) (at_desk q.desk c) (q.cache_is ∙ sym p.cache_is) q.ran in
-    record {
-      desk = d;
-      cache_is = p.cache_is;
-      deeds = p.deeds ++ q.deeds;
-      ran = ran_on files p.deeds q.deeds (at_desk d a) (at_desk d b) (at_desk d c) p.ran more;
-    }
 
 -- what holds of one standing holds of another, part by part the same
 pub standing_is : {W S : Type 0} (P : Standing W → Type 0) (reads : S → Log) (seat seat' : PoolSeat W) (evictor evictor' : Evictor)

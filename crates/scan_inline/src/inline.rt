@@ -15,7 +15,7 @@ ghost use Rattle.fragment_scan.specs.Outcomes.{IsOutcomeFor};
 ghost use Rattle.io_elevator.specs.Scratch.{IsFreshFor};
 ghost use Rattle.held_ranges.specs.Counts.{AreStepsCounted};
 ghost use Rattle.scan_inline.specs.Counts.{AreCounted};
-ghost use Rattle.scan_inline.specs.Through.{RanThrough, standing};
+ghost use Rattle.scan_inline.specs.Through.{ScansThrough, standing};
 
 use crate::through::{counts_fit, scan_through};
 use evicting_fetch::Evictor;
@@ -50,7 +50,7 @@ fn scan_of(plan: &Plan, fragment: u32) -> &Scan
 ///
 /// No count falls. Where the store tells its reads, fills and bypasses grow by as many as there are more, unless one of the two stands at
 /// its last value. Fills grow by the buffers that the seat published, and evictions by those that it released, unless such a count stands
-/// at its last value.
+/// at its last value. All that was done through the cache are deeds that fit the acts of the scan, and none where no file is found.
 ///
 /// Source: Apache ORC specification v1 for what a file has; the outcomes and their order are this project's own.
 #[tactic(auto, using(crate::proofs::Growth::none_counted, crate::proofs::Growth::none_stepped))]
@@ -80,8 +80,9 @@ pub fn scan_with<W: World, S: Store<W>>(
     ensures cause { Cause (S.fault_count store.old) (S.fault_count store.new) (result ≡ Ok (failed failure.ReadFault)) }
     ensures counted { AreCounted (S.reads store.old) (S.reads store.new) totals.old totals.new }
     ensures steps { AreStepsCounted W.files (pool_of cache.now) seat.old seat.new totals.old totals.new }
-    ensures ran { RanThrough W.files cache.now (standing seat.old evictor.old (S.reads store.old) totals.old)
-        (standing seat.new evictor.new (S.reads store.new) totals.new) }
+    ensures did { (scan : Scan) → scan_at plan.now fragment ≡ Some scan → ScansThrough W.files cache.now scan
+        (standing seat.old evictor.old (S.reads store.old) totals.old) (standing seat.new evictor.new (S.reads store.new) totals.new)
+        result }
 {
     counts_fit(totals);
     let found = match store.find(scan_of(plan, fragment).file.as_str()) {
@@ -119,8 +120,9 @@ pub fn scan_inline<W: World, S: Store<W>>(
     ensures cause { Cause (S.fault_count store.old) (S.fault_count store.new) (result ≡ Ok (failed failure.ReadFault)) }
     ensures counted { AreCounted (S.reads store.old) (S.reads store.new) totals.old totals.new }
     ensures steps { AreStepsCounted W.files (pool_of cache.now) seat.old seat.new totals.old totals.new }
-    ensures ran { RanThrough W.files cache.now (standing seat.old evictor.old (S.reads store.old) totals.old)
-        (standing seat.new evictor.new (S.reads store.new) totals.new) }
+    ensures did { (scan : Scan) → scan_at plan.now fragment ≡ Some scan → ScansThrough W.files cache.now scan
+        (standing seat.old evictor.old (S.reads store.old) totals.old) (standing seat.new evictor.new (S.reads store.new) totals.new)
+        result }
 {
     counts_fit(totals);
     let mut scratch = match Scratch::new(alloc, cache, seat) {

@@ -11,13 +11,13 @@ ghost use Rattle.fragment_plan.specs.declared.fragment.Scan.{Scan};
 ghost use Rattle.fragment_folds.specs.Scans.{scan_at};
 ghost use Rattle.fragment_meaning.specs.ScanOutcome.{IsOutcomeOn};
 ghost use Rattle.fragment_scan.specs.Outcomes.{IsOutcomeFor};
-ghost use Rattle.fragment_scan.specs.Scanned.{IfDecided, IsReadFault};
+ghost use Rattle.fragment_scan.specs.Scanned.{IfDecided, IsReadFault, ScanActs};
 ghost use Rattle.held_ranges.specs.Counts.{AreStepsCounted, last};
 ghost use Rattle.orc_streams.specs.Acts.{Act};
 ghost use Rattle.io_elevator.specs.Elevator.{Did};
 ghost use Rattle.io_elevator.specs.Scratch.{IsFreshFor, IsIdle};
 ghost use Rattle.scan_inline.specs.Counts.{AreCounted, HaveFit};
-ghost use Rattle.scan_inline.specs.Through.{RanThrough, standing};
+ghost use Rattle.scan_inline.specs.Through.{ScansFileThrough, standing};
 
 use evicting_fetch::Evictor;
 use fragment_outcome::Outcome;
@@ -47,7 +47,8 @@ fn scan_by<W: World, S: Store<W>>(
     ensures store_name { elevator.new.store.ghost_name ≡ elevator.old.store.ghost_name }
     ensures totals_name { elevator.new.totals.ghost_name ≡ elevator.old.totals.ghost_name }
     ensures scratch_name { elevator.new.scratch.ghost_name ≡ elevator.old.scratch.ghost_name }
-    ensures acts { (acts : List Act) × Did W.files S.reads elevator.old acts elevator.new }
+    ensures acts { (acts : List Act) × Did W.files S.reads elevator.old acts elevator.new
+        × ((scan : Scan) → scan_at plan.now fragment ≡ Some scan → ScanActs W.files file scan acts result) }
     ensures means { (scan : Scan) → scan_at plan.now fragment ≡ Some scan → (bytes : List ℕ) → HasBytes W.files file bytes
         → IfDecided result (IsOutcomeOn scan (Some bytes)) }
     ensures is_for { (scan : Scan) → scan_at plan.now fragment ≡ Some scan → IfOk result (IsOutcomeFor scan) }
@@ -88,9 +89,9 @@ fn scan_and_end<W: World, S: Store<W>>(
         elevator.old.totals.now elevator.new.totals.now }
     ensures steps { AreStepsCounted W.files (pool_of elevator.old.cache.now) elevator.old.seat.now elevator.new.seat.now
         elevator.old.totals.now elevator.new.totals.now }
-    ensures ran { RanThrough W.files elevator.old.cache.now
+    ensures did { (scan : Scan) → scan_at plan.now fragment ≡ Some scan → ScansFileThrough W.files elevator.old.cache.now file scan
         (standing elevator.old.seat.now elevator.old.evictor.now (S.reads elevator.old.store.now) elevator.old.totals.now)
-        (standing elevator.new.seat.now elevator.new.evictor.now (S.reads elevator.new.store.now) elevator.new.totals.now) }
+        (standing elevator.new.seat.now elevator.new.evictor.now (S.reads elevator.new.store.now) elevator.new.totals.now) result }
 {
     reads_are_counted::<W, S>();
     steps_are_counted::<W, S>();
@@ -123,7 +124,8 @@ pub fn counts_fit(totals: &CacheTotals)
 ///
 /// No count falls. Where the store tells its reads, fills and bypasses grow by as many as there are more, unless one of the two stands at
 /// its last value. Fills grow by the buffers that the seat published, and evictions by those that it released, unless such a count stands
-/// at its last value. `NoMemory` comes only where memory was refused.
+/// at its last value. All that was done are deeds that fit the acts of the scan, and what they left is let go. `NoMemory` comes only where
+/// memory was refused.
 pub fn scan_through<W: World, S: Store<W>>(
     alloc: Global,
     cache: &Cache<W>,
@@ -154,8 +156,9 @@ pub fn scan_through<W: World, S: Store<W>>(
     ensures cause { Cause (S.fault_count store.old) (S.fault_count store.new) (IsReadFault result) }
     ensures counted { AreCounted (S.reads store.old) (S.reads store.new) totals.old totals.new }
     ensures steps { AreStepsCounted W.files (pool_of cache.now) seat.old seat.new totals.old totals.new }
-    ensures ran { RanThrough W.files cache.now (standing seat.old evictor.old (S.reads store.old) totals.old)
-        (standing seat.new evictor.new (S.reads store.new) totals.new) }
+    ensures did { (scan : Scan) → scan_at plan.now fragment ≡ Some scan → ScansFileThrough W.files cache.now file scan
+        (standing seat.old evictor.old (S.reads store.old) totals.old) (standing seat.new evictor.new (S.reads store.new) totals.new)
+        result }
 {
     counts_fit(totals);
     let mut elevator = Elevator::new(cache, seat, evictor, store, totals, scratch);

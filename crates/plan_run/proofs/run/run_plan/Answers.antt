@@ -1,8 +1,10 @@
-use Rattle.std.proofs.Common.{◌≡◌, ◌∷◌, [], sym, ap, subst, arith, List, length, Ok, ◌∙◌, length-append}
+use Rattle.std.proofs.Common.{◌≡◌, ◌∷◌, refl, [], sym, ap, subst, arith, List, length, Ok, ◌∙◌, length-append}
 use Rattle.fragment_outcome.specs.declared.outcome.Outcome.{Outcome}
 use Rattle.plan_run.specs.Run.{HasRun}
+use Rattle.plan_run.specs.Scanned.{AreSteps}
 use Rattle.plan_run.specs.Steps.{HasBegun, IsRun}
 use Rattle.plan_run.proofs.Begun.{begins, goes_on, ends}
+use Rattle.plan_run.proofs.Stepping.{step_more}
 use Rattle.plan_run.proofs.run.run_plan.Goals as goal
 
 pub loop-number-init : goal.loop-number-init
@@ -12,6 +14,8 @@ loop-number-init g c = record {
   begun = subst (λ (xs : List Outcome). HasBegun g.W.World.files (g.R.Scanner.fault_count c.args.scanner.now) (g.R.Scanner.fault_count c.args.scanner.now) c.args.plan.now xs)
       (sym c.new-outcomes.ensures.items) (begins g.W.World.files (g.R.Scanner.fault_count c.args.scanner.now) c.args.plan.now);
   same = g.met.R.Scanner.same_as_itself c.args.scanner.now;
+  steps = subst (λ (xs : List Outcome). AreSteps g.R.Scanner.scanned c.args.plan.now 0 xs c.args.scanner.now c.args.scanner.now)
+      (sym c.new-outcomes.ensures.items) refl;
 }
 
 pub loop-number-preserved : goal.loop-number-preserved
@@ -29,6 +33,10 @@ loop-number-preserved g c =
       begun = subst (λ (xs : List Outcome). HasBegun g.W.World.files (g.R.Scanner.fault_count c.args.scanner.now) (g.R.Scanner.fault_count c.run_fragment.new.scanner) c.args.plan.now xs)
           (sym c.in_ok-outcomes.ensures) begun;
       same = g.met.R.Scanner.same_on c.args.scanner.now c.loop-number.scanner c.run_fragment.new.scanner c.loop-number.invariant.same c.run_fragment.ensures.same;
+      steps = subst (λ (xs : List Outcome). AreSteps g.R.Scanner.scanned c.args.plan.now 0 xs c.args.scanner.now c.run_fragment.new.scanner)
+          (sym c.in_ok-outcomes.ensures)
+          (step_more g.R.Scanner.scanned c.args.plan.now before c.in_ok-outcome.outcome 0 c.loop-number.number c.args.scanner.now c.loop-number.scanner
+          c.run_fragment.new.scanner (omega (arith, long)) c.loop-number.invariant.steps c.in_ok-outcome.ensures.step);
     }
 
 pub returns-clause-run : goal.returns-clause-run
@@ -37,3 +45,8 @@ returns-clause-run g c =
     (sym c.new.ensures)
     (ends g.W.World.files (g.R.Scanner.fault_count c.args.scanner.now) (g.R.Scanner.fault_count c.loop-number.scanner) c.args.plan.now c.loop-number.outcomes.items
     (omega (arith, c.loop-number.invariant.some, c.loop-number.invariant.count, c.loop-number.outcomes.ok.0)) c.loop-number.invariant.begun)
+
+pub returns-clause-steps : goal.returns-clause-steps
+returns-clause-steps g c =
+    subst (λ (xs : List Outcome). AreSteps g.R.Scanner.scanned c.args.plan.now 0 xs c.args.scanner.now c.loop-number.scanner)
+    (sym c.new.ensures) c.loop-number.invariant.steps

@@ -1,9 +1,10 @@
-use Rattle.std.proofs.Common.{List, ℕ, refl, sym, ap, subst, ◌∙◌}
-use Rattle.outside.specs.Files.{file_named}
+use Rattle.std.proofs.Common.{◌≡◌, List, ℕ, Some, refl, sym, ap, subst, ◌∙◌}
+use Rattle.outside.specs.Files.{Files, file_named}
+use Rattle.fragment_plan.specs.declared.fragment.Scan.{Scan}
 use Rattle.fragment_folds.specs.Scans.{scan_at}
-use Rattle.scan_inline.specs.Through.{Log, RanThrough, standing}
-use Rattle.scan_inline.specs.ThroughLaws.{through_none}
-use Rattle.scan_inline.proofs.Finding.{found_is_file, scanned_means}
+use Rattle.scan_inline.specs.Through.{Log, ScansFileThrough, standing}
+use Rattle.scan_inline.specs.Through.ScansThrough.{found as was_found, no_file, read_fault}
+use Rattle.scan_inline.proofs.Finding.{found_is_file, same_scan, scanned_means}
 use Rattle.scan_inline.proofs.Growth.{counted_since}
 use Rattle.scan_inline.proofs.inline.scan_with.Goals as goal
 
@@ -28,22 +29,23 @@ returns-in-Ok-None-clause-cause g c = record { later = c.find.ensures.cause.late
 pub returns-in-Err-clause-means : goal.returns-in-Err-clause-means
 returns-in-Err-clause-means g c = λ files scan told is no_fault. absurd (no_fault refl)
 
-pub returns-clause-ran : goal.returns-clause-ran
-returns-clause-ran g c =
-    subst (λ (log : Log). RanThrough g.W.World.files c.args.cache.now (standing c.args.seat.now c.args.evictor.now log c.args.totals.now)
-    (standing c.scan_through.new.seat c.scan_through.new.evictor (g.S.Store.reads c.scan_through.new.store) c.scan_through.new.totals))
-    c.find.ensures.reads c.scan_through.ensures.ran
+pub returns-clause-did : goal.returns-clause-did
+returns-clause-did g c = λ scan is.
+    let here = c.scan_of.result.now in
+    let same = same_scan (scan_at c.args.plan.now c.args.fragment) here scan c.scan_of.ensures is in
+    let found : (told : Files) → g.W.World.files ≡ Some told → Some c.in-Ok-Some.found ≡ file_named scan.file told =
+    subst (λ (s : Scan). (told : Files) → g.W.World.files ≡ Some told → Some c.in-Ok-Some.found ≡ file_named s.file told) same
+    (λ told are. sym c.in-Ok-Some.field-0-is ∙ c.in-Ok-Some.ensures.found told are ∙ ap (λ (n : List ℕ). file_named n told) c.as_str.ensures) in
+    was_found c.in-Ok-Some.found c.scan_through.result found
+    (subst (λ (log : Log). ScansFileThrough g.W.World.files c.args.cache.now c.in-Ok-Some.found scan
+    (standing c.args.seat.now c.args.evictor.now log c.args.totals.now)
+    (standing c.scan_through.new.seat c.scan_through.new.evictor (g.S.Store.reads c.scan_through.new.store) c.scan_through.new.totals)
+    c.scan_through.result) c.find.ensures.reads (c.scan_through.ensures.did scan is))
 
-pub returns-in-Ok-None-clause-ran : goal.returns-in-Ok-None-clause-ran
-returns-in-Ok-None-clause-ran g c =
-    let old = standing c.args.seat.now c.args.evictor.now (g.S.Store.reads c.args.store.now) c.args.totals.now in
-    subst (λ (log : Log). RanThrough g.W.World.files c.args.cache.now old (standing c.args.seat.now c.args.evictor.now log c.args.totals.now))
-    (sym c.find.ensures.reads)
-    (through_none g.W.World.files g.S.Store.reads (record { cache = c.args.cache; seat = c.args.seat; evictor = c.args.evictor; store = c.args.store; totals = c.args.totals }) old)
+pub returns-in-Ok-None-clause-did : goal.returns-in-Ok-None-clause-did
+returns-in-Ok-None-clause-did g c = λ scan is.
+    no_file (ap (λ (log : Log). standing c.args.seat.now c.args.evictor.now log c.args.totals.now) c.find.ensures.reads)
 
-pub returns-in-Err-clause-ran : goal.returns-in-Err-clause-ran
-returns-in-Err-clause-ran g c =
-    let old = standing c.args.seat.now c.args.evictor.now (g.S.Store.reads c.args.store.now) c.args.totals.now in
-    subst (λ (log : Log). RanThrough g.W.World.files c.args.cache.now old (standing c.args.seat.now c.args.evictor.now log c.args.totals.now))
-    (sym c.find.ensures.reads)
-    (through_none g.W.World.files g.S.Store.reads (record { cache = c.args.cache; seat = c.args.seat; evictor = c.args.evictor; store = c.args.store; totals = c.args.totals }) old)
+pub returns-in-Err-clause-did : goal.returns-in-Err-clause-did
+returns-in-Err-clause-did g c = λ scan is.
+    read_fault (ap (λ (log : Log). standing c.args.seat.now c.args.evictor.now log c.args.totals.now) c.find.ensures.reads)

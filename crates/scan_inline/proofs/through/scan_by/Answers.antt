@@ -1,4 +1,8 @@
+use Rattle.std.proofs.Common.{subst}
+use Rattle.fragment_plan.specs.declared.fragment.Scan.{Scan}
 use Rattle.fragment_folds.specs.Scans.{scan_at}
+use Rattle.fragment_scan.specs.Scanned.{ScanActs}
+use Rattle.scan_inline.proofs.Finding.{same_scan}
 use Rattle.scan_inline.proofs.Scans.{the_scan}
 use Rattle.scan_inline.proofs.through.scan_by.Goals as goal
 
@@ -46,5 +50,9 @@ returns-clause-scratch_name g c =
 pub returns-clause-acts : goal.returns-clause-acts
 returns-clause-acts g c =
     let s = the_scan (scan_at c.args.plan.now c.args.fragment) c.requires.scan in
-    let scans = c.scan_file.ensures.scans s.0 s.1 in
-    (scans.acts, scans.by)
+    let scans = c.scan_file.ensures.scans s.0 s.1 in (
+      scans.acts,
+      scans.by,
+      λ scan is. subst (λ (x : Scan). ScanActs g.W.World.files c.args.file x scans.acts c.scan_file.result)
+          (same_scan (scan_at c.args.plan.now c.args.fragment) s.0 scan s.1 is) scans.are,
+    )
