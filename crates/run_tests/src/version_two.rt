@@ -11,7 +11,7 @@ struct Row {
     values: &'static [i64],
 }
 
-const ROWS: [Row; 11] = [
+const ROWS: [Row; 12] = [
     Row {
         bytes: b"\x0A\x27\x10",
         signed: false,
@@ -46,6 +46,11 @@ const ROWS: [Row; 11] = [
         bytes: b"\x80\x02\x17\x01\x05\xA0\x40\x00\x00\x40",
         signed: false,
         values: &[6, 7, 6],
+    },
+    Row {
+        bytes: b"\x80\x02\x17\x01\x85\xA0\x40\x00\x00\x40",
+        signed: true,
+        values: &[-4, -3, -4],
     },
     Row {
         bytes: b"\x42\x02\x18",
