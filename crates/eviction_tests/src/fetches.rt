@@ -1,5 +1,5 @@
 // Fetches of one seat, one after the other, each let go.
-ghost use Rattle.std.specs.Prelude.{◌≡◌, ◌≤◌, length};
+ghost use Rattle.std.specs.Prelude.{◌≡◌, ◌*◌, ◌≤◌, length};
 ghost use Rattle.pool_rule.specs.Seats.{HasNothing};
 ghost use Rattle.buffer_pool.specs.Pools.{IsSameSeat, IsSeatOf, sizes_of, view};
 ghost use Rattle.range_cache.specs.Caches.{pool_of};
@@ -48,6 +48,17 @@ pub(crate) fn told(how: &How) -> u64 {
     }
 }
 
+/// The key of the range of that number, of so many bytes.
+pub(crate) fn key_of(number: u8, len: u32) -> Key
+    ensures { result ≡ record { file = 0; at = 2048 * number; len = len } }
+{
+    Key {
+        file: 0,
+        at: 2_048 * u64::from(number),
+        len,
+    }
+}
+
 /// Fetches the range of that number, and lets it go.
 pub(crate) fn get(
     cache: &Cache<RealWorld>,
@@ -66,11 +77,7 @@ pub(crate) fn get(
     ensures evictor { IsEvictorOf (pool_of cache.now) evictor.new }
     ensures nothing { HasNothing (view seat.new) }
 {
-    let key = Key {
-        file: 0,
-        at: 2_048 * u64::from(number),
-        len,
-    };
+    let key = key_of(number, len);
     let mut scratch = [0; 2_048];
     match fetch(
         cache,

@@ -1,28 +1,17 @@
 // Eight ranges are held by other seats, each a way of the one set.
-ghost use Rattle.std.specs.Prelude.{◌≡◌, ◌*◌, ◌+◌, ◌≤◌, length};
+ghost use Rattle.std.specs.Prelude.{◌≡◌, ◌+◌, ◌≤◌, length};
 ghost use Rattle.pool_rule.specs.Seats.{HasNothing};
 ghost use Rattle.buffer_pool.specs.Pools.{IsSameSeat, IsSeatOf, sizes_of, view};
 ghost use Rattle.range_cache.specs.Caches.{pool_of};
 ghost use Rattle.evicting_fetch.specs.Evictors.{IsEvictorOf};
 
-use crate::fetches::{FILE, FILLED, GEOMETRY, get};
+use crate::fetches::{FILE, FILLED, GEOMETRY, get, key_of};
 use buffer_pool::{pin, split, unpin};
 use evicting_fetch::{Evictor, fetch};
 use outside::RealWorld;
-use range_cache::{Cache, How, Key, PoolSeat, Why};
+use range_cache::{Cache, How, PoolSeat, Why};
 use std::alloc::Global;
 use test_stores::Pattern;
-
-/// The key of a range of one smallest block.
-fn small(number: u8) -> Key
-    ensures { result ≡ record { file = 0; at = 2048 * number; len = 64 } }
-{
-    Key {
-        file: 0,
-        at: 2_048 * u64::from(number),
-        len: 64,
-    }
-}
 
 /// Whether the states are those of the eight smallest blocks in their order, live and held once.
 fn are_eight_held(states: &[u64; 8]) -> bool {
@@ -58,7 +47,15 @@ fn is_refused(
     ensures nothing { HasNothing (view seat.new) }
 {
     let mut scratch = [0; 64];
-    match fetch(cache, seat, evictor, store, small(8), FILE, &mut scratch) {
+    match fetch(
+        cache,
+        seat,
+        evictor,
+        store,
+        key_of(8, 64),
+        FILE,
+        &mut scratch,
+    ) {
         Ok(ranged) => {
             let full = is_full(&ranged.how);
             let none = ranged.evicted == 0;
@@ -95,7 +92,7 @@ fn is_refused_with(
         return is_refused(cache, seat, evictor, store);
     }
     let mut mine = split(cache.pool(), rest, 1);
-    let Ok(held) = pin(cache.pool(), &mut mine, u32::from(way), small(way)) else {
+    let Ok(held) = pin(cache.pool(), &mut mine, u32::from(way), key_of(way, 64)) else {
         return false;
     };
     let refused = is_refused_with(cache, seat, rest, evictor, store, way + 1);

@@ -1,28 +1,17 @@
 // Two of four ranges are held by other seats, so that no block of half an arena can be made free.
-ghost use Rattle.std.specs.Prelude.{◌≡◌, ◌*◌};
+ghost use Rattle.std.specs.Prelude.{◌≡◌};
 ghost use Rattle.pool_rule.specs.Seats.{HasNothing};
 ghost use Rattle.buffer_pool.specs.Pools.{IsSameSeat, IsSeatOf, sizes_of, view};
 ghost use Rattle.range_cache.specs.Caches.{pool_of};
 ghost use Rattle.evicting_fetch.specs.Evictors.{IsEvictorOf};
 
-use crate::fetches::{FILLED, GEOMETRY, NO_ROOM, get};
+use crate::fetches::{FILLED, GEOMETRY, NO_ROOM, get, key_of};
 use buffer_pool::{WordName, look, pin, split, unpin};
 use evicting_fetch::Evictor;
 use outside::RealWorld;
-use range_cache::{Cache, Key, PoolSeat};
+use range_cache::{Cache, PoolSeat};
 use std::alloc::Global;
 use test_stores::Pattern;
-
-/// The key of a range of a quarter of the arena.
-fn quarter(number: u8) -> Key
-    ensures { result ≡ record { file = 0; at = 2048 * number; len = 1024 } }
-{
-    Key {
-        file: 0,
-        at: 2_048 * u64::from(number),
-        len: 1_024,
-    }
-}
 
 /// Whether half an arena can't be had while header 2 is held too: what can go has gone, and the other two quarters stay.
 fn has_no_room(
@@ -44,7 +33,7 @@ fn has_no_room(
     ensures evictor { IsEvictorOf (pool_of cache.now) evictor.new }
     ensures nothing { HasNothing (view seat.new) }
 {
-    let Ok(held) = pin(cache.pool(), third, 2, quarter(2)) else {
+    let Ok(held) = pin(cache.pool(), third, 2, key_of(2, 1_024)) else {
         return false;
     };
     let answer = get(cache, seat, evictor, store, 4, 2_048);
@@ -77,7 +66,7 @@ fn waits_for_the_held(
     let next = get(cache, seat, evictor, store, 1, 1_024);
     let after = get(cache, seat, evictor, store, 2, 1_024);
     let last = get(cache, seat, evictor, store, 3, 1_024);
-    let Ok(held) = pin(cache.pool(), second, 0, quarter(0)) else {
+    let Ok(held) = pin(cache.pool(), second, 0, key_of(0, 1_024)) else {
         return false;
     };
     let full = has_no_room(cache, seat, third, evictor, store);

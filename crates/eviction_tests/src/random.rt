@@ -7,14 +7,14 @@ ghost use Rattle.range_cache.specs.Caches.{pool_of};
 ghost use Rattle.range_cache.specs.Ranges.{IsRanged, Leaves};
 ghost use Rattle.evicting_fetch.specs.Evictors.{IsEvictorOf};
 
-use crate::fetches::{FILE, GEOMETRY, HIT, told};
+use crate::fetches::{FILE, GEOMETRY, HIT, key_of, told};
 use crate::plain::{Plain, evicted_so_far, new_plain, plain_drop, plain_get, was_used};
 use buffer_pool::split;
 use evicting_fetch::{Evictor, fetch};
 use outside::RealWorld;
 use rand_core::{Rng, SeedableRng};
 use rand_xoshiro::SplitMix64;
-use range_cache::{Cache, Key, PoolSeat, Ranged};
+use range_cache::{Cache, PoolSeat, Ranged};
 use std::alloc::Global;
 use test_stores::Pattern;
 
@@ -69,11 +69,7 @@ fn got(
     let how = plain_get(plain, number, order_of(number));
     let more = evicted_so_far(plain).wrapping_sub(evicted);
     let len = len_of(number);
-    let key = Key {
-        file: 0,
-        at: 2_048 * u64::from(number),
-        len,
-    };
+    let key = key_of(number, len);
     let mut scratch = [0; 4_096];
     let scratch = &mut scratch[..len as usize];
     let ranged = fetch(cache, seat, evictor, store, key, FILE, scratch).ok()?;
