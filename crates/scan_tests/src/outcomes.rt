@@ -1,11 +1,11 @@
 //! Scans of whole files, and what is printed of them.
 use crate::files::{
-    BOTH_BREAK, CLAIMS, CLAIMS_MORE, COLUMN_AND_FOOTER, COMPRESSED, FIVE_KINDS, FOOTERS_BREAK,
-    GREATEST, LONG_STRIPES, SECOND_BREAKS, SUM_AND_BREAK, TWO_NAMES,
+    BOTH_BREAK, CLAIMS, CLAIMS_MORE, COLUMN_AND_FOOTER, COMPRESSED, FOOTERS_BREAK, GREATEST,
+    SECOND_BREAKS, SUM_AND_BREAK, TWO_NAMES,
 };
 use crate::one_scan::scanned;
 use std::alloc::Global;
-use test_stores::OneFile;
+use test_stores::{FIVE_KINDS, LONG_STRIPES, OneFile};
 
 /// Plans over the file of five kinds, each behind `$`, and below each what is printed.
 const FOLDS: &str = "

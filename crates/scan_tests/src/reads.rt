@@ -1,8 +1,8 @@
 //! Which ranges of a file a scan reads, and a read that fails.
-use crate::files::{FIVE_KINDS, LONG_STRIPES, TWO_NAMES};
+use crate::files::TWO_NAMES;
 use crate::one_scan::scanned;
 use std::alloc::Global;
-use test_stores::OneFile;
+use test_stores::{FIVE_KINDS, LONG_STRIPES, OneFile};
 
 /// A file, a scan of it, and its reads: the end, the file's footer, and for each stripe its footer and the streams of each column, by
 /// ascending numbers and each once. A scan without a column reads no footer of a stripe, and one whose column is missing reads none.
