@@ -7,11 +7,11 @@ ghost use Rattle.range_cache.specs.Caches.{pool_of};
 ghost use Rattle.evicting_fetch.specs.Evictors.{IsEvictorOf};
 
 use crate::files::{FIVE_KINDS, LONG_STRIPES, MANY_CUTS, Part};
-use crate::one_file::{OneFile, bytes_of};
+use crate::one_file::{OneFile, file_and_plan};
 use crate::ranges::{are_counts, are_reads};
 use crate::through::scans;
 use evicting_fetch::Evictor;
-use fragment_plan::{Plan, read_plan};
+use fragment_plan::Plan;
 use ledgers::CacheTotals;
 use outside::RealWorld;
 use range_cache::{Cache, Geometry, PoolSeat};
@@ -186,17 +186,16 @@ fn reads_so(alloc: Global, row: &Row, bytes: &[u8], plan: &Plan) -> bool {
     }
 }
 
-fn row_holds(alloc: Global, row: &Row) -> Option<bool> {
-    let bytes = bytes_of(alloc, row.file)?;
-    match read_plan(alloc, row.plan.as_bytes()) {
-        Ok(plan) => Some(reads_so(alloc, row, bytes.as_slice(), &plan)),
-        Err(_) => None,
+fn row_holds(alloc: Global, row: &Row) -> bool {
+    match file_and_plan(alloc, row.file, row.plan) {
+        Some((bytes, plan)) => reads_so(alloc, row, bytes.as_slice(), &plan),
+        None => false,
     }
 }
 
 fn all_hold(alloc: Global) -> bool {
     for row in &ROWS {
-        if row_holds(alloc, row) != Some(true) {
+        if !row_holds(alloc, row) {
             return false;
         }
     }

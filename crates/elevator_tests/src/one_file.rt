@@ -2,14 +2,14 @@
 
 use crate::files::Part;
 use fragment_outcome::{Outcome, write_result};
-use fragment_plan::{Plan, Work};
+use fragment_plan::{Plan, Work, read_plan};
 use fragment_scan::scan;
 use outside::{MemorySink, RealWorld};
 use std::alloc::Global;
 pub use test_stores::OneFile;
 
 /// The bytes of a file of these parts.
-pub fn bytes_of(alloc: Global, parts: &[Part]) -> Option<Vec<u8>> {
+fn bytes_of(alloc: Global, parts: &[Part]) -> Option<Vec<u8>> {
     let mut digits = String::new(alloc);
     for (count, head, more, tail) in parts {
         for _ in 0..*count {
@@ -20,6 +20,15 @@ pub fn bytes_of(alloc: Global, parts: &[Part]) -> Option<Vec<u8>> {
         }
     }
     hex::decode(alloc, digits.as_str()).ok()
+}
+
+/// The bytes of a file of these parts, and the plan of that text.
+pub fn file_and_plan(alloc: Global, parts: &[Part], plan: &str) -> Option<(Vec<u8>, Plan)> {
+    let bytes = bytes_of(alloc, parts)?;
+    match read_plan(alloc, plan.as_bytes()) {
+        Ok(plan) => Some((bytes, plan)),
+        Err(_) => None,
+    }
 }
 
 /// A sink for what is printed of a fragment.

@@ -7,11 +7,11 @@ ghost use Rattle.range_cache.specs.Caches.{pool_of};
 ghost use Rattle.evicting_fetch.specs.Evictors.{IsEvictorOf};
 
 use crate::files::{FIVE_KINDS, LONG_STRIPES, MANY_CUTS, Part, WORKED};
-use crate::one_file::{OneFile, bytes_of};
+use crate::one_file::{OneFile, file_and_plan};
 use crate::ranges::{are_counts, are_reads};
 use crate::through::scans;
 use evicting_fetch::Evictor;
-use fragment_plan::{Plan, read_plan};
+use fragment_plan::Plan;
 use ledgers::CacheTotals;
 use outside::RealWorld;
 use range_cache::{Cache, Geometry, PoolSeat};
@@ -143,17 +143,16 @@ fn all_succeed(alloc: Global, row: &Row, bytes: &[u8], plan: &Plan) -> bool {
     true
 }
 
-fn row_goes_on(alloc: Global, row: &Row) -> Option<bool> {
-    let bytes = bytes_of(alloc, row.0)?;
-    match read_plan(alloc, row.2.as_bytes()) {
-        Ok(plan) => Some(all_succeed(alloc, row, bytes.as_slice(), &plan)),
-        Err(_) => None,
+fn row_goes_on(alloc: Global, row: &Row) -> bool {
+    match file_and_plan(alloc, row.0, row.2) {
+        Some((bytes, plan)) => all_succeed(alloc, row, bytes.as_slice(), &plan),
+        None => false,
     }
 }
 
 fn all_go_on(alloc: Global) -> bool {
     for row in &READS {
-        if row_goes_on(alloc, row) != Some(true) {
+        if !row_goes_on(alloc, row) {
             return false;
         }
     }
