@@ -1,5 +1,5 @@
 -- Numbers that stand one behind the other.
-use Rattle.std.proofs.Common.{◌≡◌, ℕ, ◌+◌, ◌^◌, ◌%◌, ◌<◌, ◌≤◌, ℤ, pos, negsuc, ◌+ℤ◌, Bool, true, false, not, ◌==◌, Vec, Global, List, [], ◌∷◌, ◌++◌, length, take, map, get_or, bit_or, of_z, w64, FitsSigned, refl, sym, ◌∙◌, ap, arith}
+use Rattle.std.proofs.Common.{◌≡◌, ℕ, ◌+◌, ◌*◌, ◌-◌, ◌^◌, ◌%◌, ◌<◌, ◌≤◌, ℤ, pos, negsuc, ◌+ℤ◌, Bool, true, false, not, ◌==◌, Vec, Global, List, [], ◌∷◌, ◌++◌, length, take, map, get_or, bit_or, of_z, w64, FitsSigned, refl, sym, ◌∙◌, ap, arith}
 use Rattle.std.proofs.lemmas.Int.{ints}
 use Rattle.std.proofs.lemmas.Nat.{le_or_l, le_or_r}
 use Rattle.std.proofs.lemmas.List.{length-map, take_more}
@@ -9,21 +9,30 @@ use Rattle.orc_values.specs.Woven.{present_count, woven}
 use Rattle.orc_values.specs.Column.{value_by, is_present, present_of, entries_in, column_of}
 use Rattle.orc_values.specs.declared.column_values.ColumnValues.{ColumnValues}
 use Rattle.orc_values.specs.declared.column_values.ColumnValues.TheVariants as list
-use Rattle.batch_masks.specs.Totals.{numbers_in, plus_all, has_some, IsSmall, SumOfFew}
+use Rattle.batch_masks.specs.Totals.{numbers_in, plus_all, has_some, SumOfFew}
 
 -- ---- small numbers
 
-pub is_small : (v : ℤ) → FitsSigned w64 v → (of_z w64 v + 2 ^ 52) % 2 ^ 64 < 2 ^ 53 → IsSmall v
-is_small (pos n) fits h = record { low = omega (arith, ints); high = omega (arith, ints, fits) }
-is_small (negsuc n) fits h = record { low = omega (arith, ints, fits); high = omega (arith, ints) }
+-- a small number that is made positive
+above_is : (v : ℤ) → FitsSigned w64 v → (of_z w64 v + 2 ^ 52) % 2 ^ 64 < 2 ^ 53
+    → pos ((of_z w64 v + 2 ^ 52) % 2 ^ 64) ≡ v +ℤ pos (2 ^ 52)
+above_is (pos n) fits h = omega (arith, ints, fits)
+above_is (negsuc n) fits h = omega (arith, ints, fits)
 
-pub seen_more : (f : ℕ → ℕ) (i seen last : ℕ) → ((k : ℕ) → k < i → f k ≤ seen) → f i ≡ last → (k : ℕ) → k < i + 1
-    → f k ≤ bit_or seen last
-seen_more f i seen last before is k below = grind (arith, before k, le_or_l seen last, le_or_r seen last)
+-- the sum with one small number more, each made positive
+pub above_more : (v before : ℤ) (seen above sum i : ℕ) → FitsSigned w64 v → (of_z w64 v + 2 ^ 52) % 2 ^ 64 ≡ above → i < 1024
+    → (seen < 2 ^ 53 → pos sum ≡ before +ℤ pos (2 ^ 52 * i)) → (seen < 2 ^ 53 → sum ≤ (2 ^ 53 - 1) * i) → bit_or seen above < 2 ^ 53
+    → (pos ((sum + above) % 2 ^ 64) ≡ before +ℤ v +ℤ pos (2 ^ 52 * (i + 1))) × ((sum + above) % 2 ^ 64 ≤ (2 ^ 53 - 1) * (i + 1))
+above_more v before seen above sum i fits is few value below small =
+    let old : seen < 2 ^ 53 = omega (arith, small, le_or_l seen above) in
+    let new : above < 2 ^ 53 = omega (arith, small, le_or_r seen above) in
+    let one : pos above ≡ v +ℤ pos (2 ^ 52) = ap pos (sym is) ∙ above_is v fits (omega (arith, is, new)) in
+    let most = below old in
+    let whole : (sum + above) % 2 ^ 64 ≡ sum + above = omega (arith, new, most, few) in
+    (omega (arith, ints, whole, one, value old), omega (arith, whole, new, most))
 
-pub fit_more : (xs : List ℤ) (i : ℕ) → ((k : ℕ) → k < i → FitsSigned w64 (get_or xs k (pos 0)))
-    → FitsSigned w64 (get_or xs i (pos 0)) → (k : ℕ) → k < i + 1 → FitsSigned w64 (get_or xs k (pos 0))
-fit_more xs i before now k below = grind (arith, before k, now)
+pub without_is : (result total sum : ℤ) (n : ℕ) → result +ℤ pos n ≡ sum → sum ≡ total +ℤ pos n → result ≡ total
+without_is result total sum n is all = omega (arith, ints, is, all)
 
 -- ---- sums
 

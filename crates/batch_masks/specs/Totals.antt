@@ -1,5 +1,5 @@
 -- The total of the numbers of a column (this project's own).
-use Rattle.std.specs.Prelude.{ℕ, ◌*◌, ◌^◌, ℤ, pos, neg_ℤ, ◌+ℤ◌, ◌≤ℤ◌, ◌<ℤ◌, Bool, true, false, ◌||◌, List, [], ◌∷◌}
+use Rattle.std.specs.Prelude.{ℕ, ◌*◌, ◌^◌, ℤ, pos, neg_ℤ, ◌+ℤ◌, ◌≤ℤ◌, Bool, true, false, ◌||◌, List, [], ◌∷◌}
 use Rattle.orc_values.specs.declared.value.Value.{Value}
 use Rattle.orc_values.specs.declared.value.Value.TheVariants as value
 use Rattle.batch_masks.specs.declared.total.Total.{Total}
@@ -30,8 +30,3 @@ with_numbers total numbers = record { some = total.some || has_some numbers; sum
 pub record SumOfFew (count : ℕ) (sum : ℤ) : Type 0 where
   pub low : neg_ℤ (pos (2 ^ 63 * count)) ≤ℤ sum
   pub high : sum ≤ℤ pos (2 ^ 63 * count)
-
--- a number within 2^52 of 0
-pub record IsSmall (number : ℤ) : Type 0 where
-  pub low : neg_ℤ (pos (2 ^ 52)) ≤ℤ number
-  pub high : number <ℤ pos (2 ^ 52)

@@ -1,7 +1,7 @@
 //! The total of all numbers of a column: in 64 bits where they are small, and else in 128.
-ghost use Rattle.std.specs.Prelude.{◌≡◌, ℕ, ◌+◌, ◌^◌, ◌<◌, ◌≤◌, true, pos, length, get_or, FitsSigned};
+ghost use Rattle.std.specs.Prelude.{◌≡◌, ◌+◌, ◌-◌, ◌+ℤ◌, ◌*◌, ◌^◌, ◌<◌, ◌≤◌, pos, length, FitsSigned, IfSome};
 ghost use Rattle.std.specs.Int.{w64, w128};
-ghost use Rattle.batch_masks.specs.Totals.{numbers_in, plus_all, with_numbers, IsSmall, SumOfFew};
+ghost use Rattle.batch_masks.specs.Totals.{numbers_in, plus_all, with_numbers, SumOfFew};
 
 use crate::narrow::number_at;
 use crate::total::Total;
@@ -50,23 +50,26 @@ fn sum_all(sum: i128, given: u64, numbers: &[i64]) -> i128
     ensures bound { SumOfFew (given + length numbers.now) result }
     ensures fits { FitsSigned w128 result }
 {
-    if numbers.len() <= FEW && are_small(numbers) {
-        return with_small(sum, given, numbers);
+    if numbers.len() <= FEW {
+        if let Some(few) = sum_of_small(numbers) {
+            return with_few(sum, given, numbers, few);
+        }
     }
     sum_wide(sum, given, numbers)
 }
 
-/// The same of a few small numbers, whose sum fits 64 bits.
-fn with_small(sum: i128, given: u64, numbers: &[i64]) -> i128
+/// A sum with numbers more, of which the sum is known.
+fn with_few(sum: i128, given: u64, numbers: &[i64], few: i64) -> i128
     requires few { given + length numbers.now < 2 ^ 63 }
     requires bound { SumOfFew given sum }
-    requires short { length numbers.now ≤ 1024 }
-    requires small { (k : ℕ) → k < length numbers.now → IsSmall (get_or numbers.now k (pos 0)) }
+    requires known { few ≡ plus_all (pos 0) numbers.now }
+    requires within { SumOfFew (length numbers.now) few }
+    requires fits { FitsSigned w64 few }
     ensures sum { result ≡ plus_all sum numbers.now }
     ensures bound { SumOfFew (given + length numbers.now) result }
     ensures fits { FitsSigned w128 result }
 {
-    sum + i128::from(sum_of_small(numbers))
+    sum + i128::from(few)
 }
 
 /// The same of any numbers.
@@ -84,28 +87,34 @@ fn sum_wide(sum: i128, given: u64, numbers: &[i64]) -> i128
     now
 }
 
-/// Whether each number is small. Numbers that are may be found not to be.
-fn are_small(numbers: &[i64]) -> bool
-    ensures { result ≡ true → (k : ℕ) → k < length numbers.now → IsSmall (get_or numbers.now k (pos 0)) }
+/// The sum of few numbers, if all are small, and else `None`.
+///
+/// Each is made positive by `FAR`, so that one sum in 64 bits and one bit tell both: whether all are small, and what they come to.
+fn sum_of_small(numbers: &[i64]) -> Option<i64>
+    requires short { length numbers.now ≤ 1024 }
+    ensures sum { IfSome result (λ sum. sum ≡ plus_all (pos 0) numbers.now) }
+    ensures bound { IfSome result (λ sum. SumOfFew (length numbers.now) sum) }
+    ensures fits { IfSome result (FitsSigned w64) }
 {
     let mut seen = 0u64;
+    let mut sum = 0u64;
     for number in numbers {
-        seen |= number.cast_unsigned().wrapping_add(FAR);
+        let above = number.cast_unsigned().wrapping_add(FAR);
+        seen |= above;
+        sum = sum.wrapping_add(above);
     }
-    seen < 2 * FAR
+    if seen >= 2 * FAR {
+        return None;
+    }
+    Some(without_far(sum, numbers.len()))
 }
 
-/// The sum of small numbers.
-fn sum_of_small(numbers: &[i64]) -> i64
-    requires short { length numbers.now ≤ 1024 }
-    requires small { (k : ℕ) → k < length numbers.now → IsSmall (get_or numbers.now k (pos 0)) }
-    ensures sum { result ≡ plus_all (pos 0) numbers.now }
-    ensures bound { SumOfFew (length numbers.now) result }
+/// What a sum of so many numbers is without the `FAR` of each.
+fn without_far(sum: u64, count: usize) -> i64
+    requires few { count ≤ 1024 }
+    requires below { sum ≤ (2 ^ 53 - 1) * count }
+    ensures value { result +ℤ pos (2 ^ 52 * count) ≡ pos sum }
     ensures fits { FitsSigned w64 result }
 {
-    let mut sum = 0i64;
-    for number in numbers {
-        sum += *number;
-    }
-    sum
+    sum as i64 - (FAR * count as u64) as i64
 }
