@@ -14,6 +14,9 @@ use outside::{Feed, RunFault, take_exactly};
 /// So many values or fewer are unpacked one by one, and taken with a small buffer, which has room for them at any width.
 const FEW: usize = 32;
 
+/// Up to this width a buffer of medium size has room for the values of any run.
+const MEDIUM: u32 = 24;
+
 /// The number in at most eight bytes, big endian.
 pub fn number_in(bytes: &[u8]) -> u64
     requires { length bytes.now ≤ 8 }
@@ -182,6 +185,8 @@ pub fn take_packed<F: Feed>(
 {
     if into.len() <= FEW {
         take_within::<F, 264>(feed, stream, width, signed, into)
+    } else if width <= MEDIUM {
+        take_within::<F, 1544>(feed, stream, width, signed, into)
     } else {
         take_within::<F, 4104>(feed, stream, width, signed, into)
     }
