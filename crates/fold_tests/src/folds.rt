@@ -7,7 +7,7 @@ use outside::MemorySink;
 use std::alloc::Global;
 
 /// A plan, the batches of its scans and what is printed of its last fragment. Lines and batches are parted by `|`, and scans by `/`.
-const FOLDS: [(&str, &str, &str); 18] = [
+const FOLDS: [(&str, &str, &str); 19] = [
     ("s sum x from t", "i1,2,_|i3", "s sum 6\n"),
     ("s sum x from t", "i_,_", "s sum null\n"),
     (
@@ -32,6 +32,7 @@ const FOLDS: [(&str, &str, &str); 18] = [
     ),
     ("n count from t where x != 2", "i1,2,_,3", "n count 2\n"),
     ("n count from t where x <= -1", "i-2,-1,_,0", "n count 2\n"),
+    ("n count from t where x < 2", "i1,2,_,3", "n count 1\n"),
     ("n count from t where x is null", "i1,_,_", "n count 2\n"),
     (
         "n count from t where x is not null and y > 'a'",
