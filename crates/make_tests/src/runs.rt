@@ -15,7 +15,7 @@ struct Row {
     two: &'static [u8],
 }
 
-const ROWS: [Row; 11] = [
+const ROWS: [Row; 13] = [
     Row {
         values: &[7; 100],
         signed: false,
@@ -51,6 +51,18 @@ const ROWS: [Row; 11] = [
         signed: false,
         one: b"\xF4\x05\x01\x07\x03\xC0\x84\x3D\x02\x06\x04\x01\x05\x07\x02",
         two: b"\x86\x0B\x0F\xE1\x01\x40\x62\xF1\x53\x04\x61\x04\xF4\x23",
+    },
+    Row {
+        values: &[5, 1, 7, 3, 1000000, 2, 6, 4, 1, 1000000, 7, 2],
+        signed: false,
+        one: b"\xF4\x05\x01\x07\x03\xC0\x84\x3D\x02\x06\x04\x01\xC0\x84\x3D\x07\x02",
+        two: b"\x86\x0B\x0F\xE2\x01\x40\x62\xF1\x53\x0F\x61\x04\xF4\x23\x05\xF4\x23",
+    },
+    Row {
+        values: &[10, 20, 30, 40, 50],
+        signed: false,
+        one: b"\x02\x0A\x0A",
+        two: b"\xC0\x04\x0A\x14",
     },
     Row {
         values: &[23713, 43806, 57005, 48879],
