@@ -2,7 +2,7 @@
 //! and at what they are compared with once a batch.
 ghost use Rattle.std.specs.Prelude.{◌≡◌, ◌<◌, length, map, not, false, replicate, if◌then◌else◌, get_or, pos, FitsSigned};
 ghost use Rattle.std.specs.Int.{w64};
-ghost use Rattle.std.specs.Ordering.{nat_cmp, int_cmp, bool_cmp};
+ghost use Rattle.std.specs.Ordering.{nat_cmp, int_cmp, bool_cmp, is_eq};
 ghost use Rattle.std.specs.Cmp.Lexicographic.{slice_cmp};
 ghost use Rattle.fragment_plan.specs.declared.test.Check.TheVariants as check;
 ghost use Rattle.orc_values.specs.declared.value.Value.TheVariants as value;
@@ -183,7 +183,42 @@ fn chosen(truth: bool, of_false: bool, of_true: bool) -> bool
 }
 
 /// The same of texts, with a text.
+///
+/// Whether a text is the literal is told without their order.
 fn narrow_texts(mask: &mut [bool], values: &Texts, op: Op, literal: &[u8])
+    requires { length mask.old ≡ length values.now }
+    ensures { mask.new ≡ both mask.old (map (λ t. satisfies op (slice_cmp nat_cmp t literal.now)) values.now) }
+{
+    match op {
+        Op::Equal => narrow_same(mask, values, literal, false, true),
+        Op::NotEqual => narrow_same(mask, values, literal, true, false),
+        _ => narrow_ordered(mask, values, op, literal),
+    }
+}
+
+/// The same, where it is known what the operator answers of a text that is the literal, and of another.
+fn narrow_same(mask: &mut [bool], values: &Texts, literal: &[u8], of_other: bool, of_same: bool)
+    requires { length mask.old ≡ length values.now }
+    ensures { mask.new ≡ both mask.old (map (λ t. if is_eq (slice_cmp nat_cmp t literal.now) then of_same else of_other) values.now) }
+{
+    for place in 0..values.len() {
+        let same = is_same(values.get(place), literal);
+        mask[place] = mask[place] & chosen(same, of_other, of_same);
+    }
+}
+
+/// Whether a text is the literal. Most have another length, and then no byte is looked at.
+fn is_same(text: &[u8], literal: &[u8]) -> bool
+    ensures { result ≡ is_eq (slice_cmp nat_cmp text.now literal.now) }
+{
+    if text.len() != literal.len() {
+        return false;
+    }
+    text.cmp(literal).is_eq()
+}
+
+/// Lets those texts pass no more that don't stand in such an order with the literal.
+fn narrow_ordered(mask: &mut [bool], values: &Texts, op: Op, literal: &[u8])
     requires { length mask.old ≡ length values.now }
     ensures { mask.new ≡ both mask.old (map (λ t. satisfies op (slice_cmp nat_cmp t literal.now)) values.now) }
 {

@@ -2,7 +2,7 @@ use Rattle.std.proofs.Common.{◌≡◌, ◌&&◌, ℕ, ◌<◌, ◌≤◌, get_
 use Rattle.std.specs.Ordering.{nat_cmp}
 use Rattle.std.specs.Cmp.Lexicographic.{slice_cmp}
 use Rattle.batch_masks.specs.Checks.{satisfies}
-use Rattle.batch_masks.proofs.narrow.narrow_texts.Given as goal
+use Rattle.batch_masks.proofs.narrow.narrow_ordered.Given as goal
 
 abbrev pub invariant-loop-place : goal.invariant-loop-place
 invariant-loop-place l = record {
