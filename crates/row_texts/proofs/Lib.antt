@@ -1,2 +1,3 @@
 mod ChosenTexts
+mod Positive
 mod Rooms

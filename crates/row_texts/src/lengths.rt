@@ -1,5 +1,5 @@
 //! Lengths of texts: how many bytes they are together, and where each text ends.
-ghost use Rattle.std.specs.Prelude.{◌≡◌, ◌+◌, ◌<◌, ◌^◌, ℤ, length, map, sum, unsigned_abs, All, Contains, MatchOption};
+ghost use Rattle.std.specs.Prelude.{◌≡◌, ◌+◌, ◌<◌, ◌^◌, ℤ, true, length, map, sum, unsigned_abs, All, Contains, MatchOption};
 ghost use Rattle.std.specs.Prelude.{IfOk, IsTrue, IsFalse};
 ghost use Rattle.std.specs.Int.{IsNonNegative};
 ghost use Rattle.orc_values.specs.Texts.{running_ends, slices};
@@ -14,7 +14,21 @@ pub fn has_negative(lengths: &[i64]) -> bool
     ensures some { IsTrue result → (number : ℤ) × Contains lengths.now number × IsNegative number }
     ensures none { IsFalse result → All IsNonNegative lengths.now }
 {
+    if are_positive(lengths) {
+        return false;
+    }
     lengths.iter().any(|length| *length < 0)
+}
+
+/// Whether no length is negative: then none has the highest bit, which is looked at once.
+fn are_positive(lengths: &[i64]) -> bool
+    ensures { result ≡ true → All IsNonNegative lengths.now }
+{
+    let mut seen = 0u64;
+    for length in lengths {
+        seen |= length.cast_unsigned();
+    }
+    seen < 1 << 63
 }
 
 /// How much room is left behind texts of these lengths, or None where there is too little.

@@ -1,0 +1,23 @@
+-- Numbers whose highest bit isn't set.
+use Rattle.std.proofs.Common.{◌≡◌, ℕ, zero, suc, ◌+◌, ◌^◌, ◌<◌, ◌≤◌, ℤ, pos, negsuc, List, [], ◌∷◌, length, get_or, bit_or, of_z, w64, FitsSigned, refl, arith, rules}
+use Rattle.std.specs.Int.{IsNonNegative}
+use Rattle.std.proofs.lemmas.Int.{ints}
+use Rattle.std.proofs.lemmas.Nat.{le_or_l, le_or_r}
+
+pub is_positive : (v : ℤ) → FitsSigned w64 v → of_z w64 v < 2 ^ 63 → IsNonNegative v
+is_positive (pos n) fits h = search rules
+is_positive (negsuc n) fits h = absurd (omega (arith, ints, fits))
+
+pub seen_more : (f : ℕ → ℕ) (i seen last : ℕ) → ((k : ℕ) → k < i → f k ≤ seen) → f i ≡ last → (k : ℕ) → k < i + 1
+    → f k ≤ bit_or seen last
+seen_more f i seen last before is k below = grind (arith, before k, le_or_l seen last, le_or_r seen last)
+
+pub fit_more : (xs : List ℤ) (i : ℕ) → ((k : ℕ) → k < i → FitsSigned w64 (get_or xs k (pos 0)))
+    → FitsSigned w64 (get_or xs i (pos 0)) → (k : ℕ) → k < i + 1 → FitsSigned w64 (get_or xs k (pos 0))
+fit_more xs i before now k below = grind (arith, before k, now)
+
+-- an item that is there, whatever stands in place of one that isn't
+pub get_or-any : (xs : List ℤ) (k : ℕ) (d e : ℤ) → k < length xs → get_or xs k d ≡ get_or xs k e
+get_or-any [] k d e h = absurd (omega arith)
+get_or-any (x ∷ xs) zero d e h = refl
+get_or-any (x ∷ xs) (suc k) d e h = get_or-any xs k d e (omega arith)
