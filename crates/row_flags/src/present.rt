@@ -81,7 +81,8 @@ impl Present {
 
     /// Whether it has no byte, so that all flags are set.
     pub fn is_empty(&self) -> bool
-        ensures { result ≡ true → self.now.state ≡ Empty }
+        ensures empty { result ≡ true → self.now.state ≡ Empty }
+        ensures told { self.now.state ≡ Empty → result ≡ true }
     {
         match self.state {
             PresentState::Empty => true,
