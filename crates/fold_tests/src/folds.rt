@@ -7,7 +7,7 @@ use outside::MemorySink;
 use std::alloc::Global;
 
 /// A plan, the batches of its scans and what is printed of its last fragment. Lines and batches are parted by `|`, and scans by `/`.
-const FOLDS: [(&str, &str, &str); 19] = [
+const FOLDS: [(&str, &str, &str); 20] = [
     ("s sum x from t", "i1,2,_|i3", "s sum 6\n"),
     ("s sum x from t", "i_,_", "s sum null\n"),
     (
@@ -71,6 +71,7 @@ const FOLDS: [(&str, &str, &str); 19] = [
         "r rows 1\n\"a\\\"\\x01\\x7fé\"\n",
     ),
     ("g group x from t", "i_", "g group 1\nnull\t1\n"),
+    ("r rows x from t", "i_,1,2,3", "r rows 4\nnull\n1\n2\n3\n"),
 ];
 
 const MERGES: [(&str, &str, &str); 6] = [

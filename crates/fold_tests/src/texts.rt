@@ -48,6 +48,24 @@ fn names_are_printed(alloc: Global, plan: &Plan) -> Option<bool> {
     Some(is_named && fails(alloc, plan, source, "m failed source a\n"))
 }
 
+/// The line of a failure that names a column of 5,000 bytes, more than what is held before a write.
+fn long_line(alloc: Global) -> Option<Vec<u8>> {
+    let mut line = b"m failed no column ".to_vec(alloc).ok()?;
+    line.resize(line.len() + 5_000, b'u').ok()?;
+    line.push(b'\n').ok()?;
+    Some(line)
+}
+
+/// Whether what was held before a long name was written is printed once.
+fn a_long_name_is_printed(alloc: Global) -> Option<bool> {
+    let plan = read_plan(alloc, PLAN.as_bytes()).ok()?;
+    let line = long_line(alloc)?;
+    let name = Bytes::new(line.get(19..5_019)?.to_vec(alloc).ok()?);
+    let mut sink = MemorySink::new(alloc, Vec::new(alloc), 6_000).ok()?;
+    let failure = Outcome::Failure(Failure::NoColumn(name));
+    Some(writes(&plan, 1, &failure, &mut sink) && sink.written()? == line.as_slice())
+}
+
 fn causes_are_printed(alloc: Global) -> Option<bool> {
     let plan = read_plan(alloc, PLAN.as_bytes()).ok()?;
     let named = names_are_printed(alloc, &plan)?;
@@ -69,6 +87,11 @@ fn a_failed_write_is_told(alloc: Global) -> Option<bool> {
 #[test]
 fn each_failure_prints_its_cause(rt: HostRuntime) {
     assert!(rt; causes_are_printed(rt.alloc()) == Some(true));
+}
+
+#[test]
+fn a_long_name_is_printed_once(rt: HostRuntime) {
+    assert!(rt; a_long_name_is_printed(rt.alloc()) == Some(true));
 }
 
 #[test]
