@@ -37,6 +37,16 @@ fn all_are_written(alloc: Global) -> bool {
     true
 }
 
+/// The types of `note` and `qty` in a footer: STRING and INT.
+const TYPES: &[u8] = b"\x22\x02\x08\x07\x22\x02\x08\x03";
+
+/// Whether a file has the length that one stripe of these encodings gives, and tells these types.
+fn is_encoded(alloc: Global) -> Option<bool> {
+    let made = Made::new(alloc, 7, 10_000).ok()?;
+    let bytes = made.bytes();
+    Some(bytes.len() == 50_587 && bytes.windows(8).any(|it| it == TYPES))
+}
+
 /// Whether a sink whose first write fails is a write fault.
 fn is_fault(alloc: Global) -> Option<bool> {
     let mut sink = MemorySink::new(alloc, [1].to_vec(alloc).ok()?, 100).ok()?;
@@ -97,6 +107,11 @@ fn files_are_read(alloc: Global) -> Option<bool> {
     let sure = store.faults() == 0;
     let nobody = is_front(&mut store, 9, None);
     Some(made && under && sure && nobody && store.faults() == 1)
+}
+
+#[test]
+fn a_generated_file_is_encoded_as_its_columns(rt: HostRuntime) {
+    assert!(rt; is_encoded(rt.alloc()) == Some(true));
 }
 
 #[test]

@@ -113,20 +113,10 @@ fn all_are_read_back(alloc: Global, columns: &[Column]) -> bool {
 /// The encodings of the root, `b` and `n` in a stripe's footer, where those of version 2 are written: DIRECT, DIRECT and DIRECT_V2.
 const ENCODINGS: &[u8] = b"\x12\x02\x08\x00\x12\x02\x08\x00\x12\x02\x08\x02";
 
-/// Whether these bytes stand somewhere among the others.
-fn holds(bytes: &[u8], part: &[u8]) -> bool {
-    for at in 0..bytes.len() {
-        if bytes[at..].starts_with(part) {
-            return true;
-        }
-    }
-    false
-}
-
 /// Whether the spellings of version 2 are told.
 fn version_two_is_told(alloc: Global) -> Option<bool> {
     let file = file_of(alloc, &NEW, 5)?;
-    Some(holds(file.written()?, ENCODINGS))
+    Some(file.written()?.windows(12).any(|it| it == ENCODINGS))
 }
 
 #[test]
