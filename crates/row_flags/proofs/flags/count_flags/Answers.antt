@@ -58,4 +58,4 @@ returns-then-is_empty g c =
     c.loop-given.given c.min-asked.result c.loop-given.set c.count_present.result c.fill.new.flags i.stream len c.count_present.ensures
     i.reads (rw asked at (c.in_ok-fill.ensures.fills i.whole)) in
     all_left f.rest f.fed f.fault_count g.met.F.Feed.fed_joined c.args.present.now c.fill.new.self c.args.feed.now c.fill.new.feed n c.args.rows (c.loop-given.set + c.count_present.result)
-    (g.met.F.Feed.fed_nothing c.fill.new.feed) (c.fill.ensures.stream ∙ i.stream) (c.is_empty.ensures c.if-is_empty.true) (omega (arith, i.within)) one
+    (g.met.F.Feed.fed_nothing c.fill.new.feed) (c.fill.ensures.stream ∙ i.stream) (c.is_empty.ensures.empty c.if-is_empty.true) (omega (arith, i.within)) one
