@@ -99,7 +99,7 @@ fn walk_columns<W: World, S: StreamReader<W>, C: Consumer>(
 ///
 /// It reads the stripe's footer in one read, opens and starts the columns in their order, gives batches of 1,024 rows, the last of
 /// which may have fewer, and closes all streams, whatever it answers then. Where no column is read it gives the number of rows
-/// alone, and does nothing to the reader. There are at most 16 columns, by ascending numbers of their types; `batches` has a batch
+/// alone, and does nothing to the reader. There are at most 16 columns, read in the order in which they stand; `batches` has a batch
 /// for each, whose memory is used.
 ///
 /// A fault is the content's own: that of the footer, or of the first column that is refused, which is found by reading the columns

@@ -63,7 +63,7 @@ fn walk_each<W: World, S: StreamReader<W>, C: Consumer>(
 /// Gives the rows of a file's stripes to a consumer, in their order, by the columns that are read.
 ///
 /// The stripes are those of a tail: at most 1,000,000, and each lies in the file. Each is walked as `walk_stripe` does it. There are
-/// at most 16 columns, by ascending numbers of their types; with none the consumer takes each stripe's count, and the file
+/// at most 16 columns, read in the order in which they stand; with none the consumer takes each stripe's count, and the file
 /// isn't read.
 ///
 /// A fault is that of the least stripe that fails, its footer before its columns and these in their order; the consumer has then
