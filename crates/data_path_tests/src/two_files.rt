@@ -66,11 +66,11 @@ fn has_told(store: &MemoryStore<TwoWorld>, reads: usize) -> bool {
     }
 }
 
-/// Whether a plan over a store whose call of that number fails (0: none) writes that text and makes so many reads.
-fn tells(alloc: Global, plan: &str, failing: u64, text: &str, reads: usize) -> bool {
+/// Whether a plan over a store whose call of that number fails (0: none) writes that text, ends with that status and makes so many reads.
+fn tells(alloc: Global, plan: &str, failing: u64, text: &str, ends: (u8, usize)) -> bool {
     match store_of(alloc, failing) {
         Some(mut store) => {
-            told_status(alloc, plan, &mut store, text).is_some() && has_told(&store, reads)
+            told_status(alloc, plan, &mut store, text) == Some(ends.0) && has_told(&store, ends.1)
         }
         None => false,
     }
@@ -78,49 +78,49 @@ fn tells(alloc: Global, plan: &str, failing: u64, text: &str, reads: usize) -> b
 
 const SUMS: &str = "s sum x from a.orc\nt sum x from b.orc\n";
 
-/// Plans, the number of the call that fails, the text, and how many reads there are.
-const ROWS: [(&str, u64, &str, usize); 6] = [
+/// Plans, the number of the call that fails, the text, and the status and how many reads there are.
+const ROWS: [(&str, u64, &str, (u8, usize)); 6] = [
     (
         SUMS,
         0,
         "s sum -400\nt sum 50\ncache hit 0 filled 8 bypass 0 evicted 0 moved 0\n",
-        8,
+        (0, 8),
     ),
     (
         SUMS,
         3,
         "s failed read fault\nt sum 50\ncache hit 0 filled 5 bypass 0 evicted 0 moved 0\n",
-        5,
+        (1, 5),
     ),
     (
         SUMS,
         6,
         "s sum -400\nt failed read fault\ncache hit 0 filled 4 bypass 0 evicted 0 moved 0\n",
-        4,
+        (1, 4),
     ),
     (
         "s sum x from a.orc\nt sum x from b.orc\nm merge t,s\n",
         3,
         "s failed read fault\nt sum 50\nm failed source s\ncache hit 0 filled 5 bypass 0 evicted 0 moved 0\n",
-        5,
+        (1, 5),
     ),
     (
         "a count from a.orc\nm merge a,z\nz count from b.orc",
         0,
         "plan line 2: unknown fragment\n",
-        0,
+        (3, 0),
     ),
     (
         "n count from a.orc\n",
         0,
         "n count 100\ncache hit 0 filled 2 bypass 0 evicted 0 moved 0\n",
-        2,
+        (0, 2),
     ),
 ];
 
 fn all_tell(alloc: Global) -> bool {
-    for (plan, failing, text, reads) in &ROWS {
-        if !tells(alloc, plan, *failing, text, *reads) {
+    for (plan, failing, text, ends) in &ROWS {
+        if !tells(alloc, plan, *failing, text, *ends) {
             return false;
         }
     }

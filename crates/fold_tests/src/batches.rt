@@ -64,10 +64,10 @@ fn column_of(alloc: Global, text: &str) -> Option<Column> {
     }
 }
 
-/// The columns of a batch, parted by spaces.
+/// The columns of a batch, parted by semicolons.
 fn columns_of(alloc: Global, text: &str) -> Option<Vec<Column>> {
     let mut columns = Vec::new(alloc);
-    for text in text.split(' ') {
+    for text in text.split(';') {
         columns.push(column_of(alloc, text)?).ok()?;
     }
     Some(columns)

@@ -27,7 +27,7 @@ const FOLDS: [(&str, &str, &str); 20] = [
     ),
     (
         "s sum x from t where y = true",
-        "i1,2,_,4 b1,0,1,1",
+        "i1,2,_,4;b1,0,1,1",
         "s sum 5\n",
     ),
     ("n count from t where x != 2", "i1,2,_,3", "n count 2\n"),
@@ -36,7 +36,7 @@ const FOLDS: [(&str, &str, &str); 20] = [
     ("n count from t where x is null", "i1,_,_", "n count 2\n"),
     (
         "n count from t where x is not null and y > 'a'",
-        "i1,_,2 tb,b,a",
+        "i1,_,2;tb,b,a",
         "n count 1\n",
     ),
     ("n count from t", "#7", "n count 7\n"),
@@ -52,7 +52,7 @@ const FOLDS: [(&str, &str, &str); 20] = [
     ),
     (
         "g group x from t where y = true",
-        "i2,-1,2,2 b1,1,0,1",
+        "i2,-1,2,2;b1,1,0,1",
         "g group 2\n-1\t1\n2\t2\n",
     ),
     (
@@ -62,13 +62,13 @@ const FOLDS: [(&str, &str, &str); 20] = [
     ),
     (
         "r rows y,x,y from t where x >= 2",
-        "ta,c\\d,_ i1,2,3",
+        "ta,c\\d,_;i1,2,3",
         "r rows 2\n\"c\\\\d\"\t2\t\"c\\\\d\"\nnull\t3\tnull\n",
     ),
     (
         "r rows x from t where x < 'b'",
-        "ta\"\u{1}\u{7F}é,b,_",
-        "r rows 1\n\"a\\\"\\x01\\x7fé\"\n",
+        "ta \"\u{1}\u{7F}é,b,_",
+        "r rows 1\n\"a \\\"\\x01\\x7fé\"\n",
     ),
     ("g group x from t", "i_", "g group 1\nnull\t1\n"),
     ("r rows x from t", "i_,1,2,3", "r rows 4\nnull\n1\n2\n3\n"),

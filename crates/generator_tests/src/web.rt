@@ -117,12 +117,12 @@ fn begun(alloc: Global) -> Option<Writer>
     with_opaque(alloc, writer, 2, "tags", 10, [7].to_vec(alloc).ok()?)
 }
 
-/// A request's page: three in turn, one with a space, and none in the third row of four.
+/// A request's page: three in turn, and none in the third row of four.
 fn url_at(alloc: Global, index: u32) -> Option<Value>
     ensures { IfSome result (MayStand (Dictionary Two)) }
 {
     let text = match index % 4 {
-        0 => "/a b",
+        0 => "/a",
         1 => "/b",
         2 => return Some(Value::Null),
         _ => "/c",
@@ -168,7 +168,7 @@ fn web_file(alloc: Global) -> Option<MemorySink> {
 const PLAN: &str =
     "g group url from web.orc where hit = true and ms >= 50\nk sum score from web.orc\n";
 
-const PRINTED: &str = "g group 2\nnull\t2600\n\"/a b\"\t2400\nk failed wrong kind score\n";
+const PRINTED: &str = "g group 2\nnull\t2600\n\"/a\"\t2400\nk failed wrong kind score\n";
 
 /// Whether the plan over the file of these bytes is printed so.
 fn is_printed(alloc: Global, file: &[u8]) -> Option<bool> {

@@ -96,9 +96,28 @@ fn widths_and_names(alloc: Global) -> Option<bool> {
     Some([width(&plan, 1), width(&plan, 2), width(&plan, 3)] == WIDTHS)
 }
 
+/// A merge behind two scans that wait for a third.
+const MERGED: &[u8] =
+    b"a sum x from t.orc\nz sum x from t.orc after a\ny sum x from t.orc after a\nm merge z,y\n";
+
+/// Whether the merge has no column, and names the two scans.
+fn merge_names(alloc: Global) -> Option<bool> {
+    let plan = read_plan(alloc, MERGED).ok()?;
+    if plan.fragments().len() != 4 {
+        return None;
+    }
+    let named = [
+        named_by(&plan, 3, 0),
+        named_by(&plan, 3, 1),
+        named_by(&plan, 3, 2),
+    ];
+    Some(width(&plan, 3) == 0 && named == [Some(1), Some(2), None])
+}
+
 #[test]
 fn widths_and_named_fragments(rt: HostRuntime) {
     assert!(rt; widths_and_names(rt.alloc()) == Some(true));
+    assert!(rt; merge_names(rt.alloc()) == Some(true));
 }
 
 fn sameness(alloc: Global) -> Option<bool> {

@@ -27,7 +27,7 @@ const FOUND: [(u64, u32, Option<u32>); 20] = [
 ];
 
 /// A word, its movable bits, an order, and the offset of the window.
-const WINDOWS: [(u64, u64, u32, Option<u32>); 16] = [
+const WINDOWS: [(u64, u64, u32, Option<u32>); 17] = [
     (0x0000_FFFF_0000_FFFF, 0x0000_FFFF_0000_FFFF, 5, Some(0)),
     (0x0000_FFFF_0000_FFFF, 0x0000_FFFF_0000_0000, 5, Some(32)),
     (0xF0F3_00FF_0F01_F7CE, 0xF000_00FF_0F01_0000, 0, Some(0)),
@@ -43,6 +43,7 @@ const WINDOWS: [(u64, u64, u32, Option<u32>); 16] = [
     (0x0102_0408_1020_4080, 0xFFFF_FFFF_FFFF_FFFF, 6, Some(0)),
     (0x8000_0000_0000_0001, 0x8000_0000_0000_0000, 4, Some(16)),
     (0x8000_0000_0000_0001, 0x8000_0000_0000_0000, 5, Some(32)),
+    (0x0000_0000_0000_0010, 0x0000_0000_0000_001F, 2, Some(0)),
     (0, 0, 7, None),
 ];
 

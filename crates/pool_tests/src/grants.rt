@@ -8,17 +8,22 @@ use buffer_pool::{Geometry, Pool, PoolSeat, WordName, grant, look, ungrant};
 use outside::RealWorld;
 use std::alloc::Global;
 
-/// Tries place 4 from a word in which nothing is out. Gives the word that the exchange found.
-fn stale(pool: &Pool<RealWorld>, seat: &mut PoolSeat<RealWorld>) -> u64
+/// Tries place 4 from a word that isn't there. Gives the word that the exchange found, or all ones where the block was granted.
+fn stale(pool: &Pool<RealWorld>, seat: &mut PoolSeat<RealWorld>, word: u64) -> u64
     requires seat { IsSeatOf pool.now seat.old }
     requires arenas { (sizes_of pool.now).arenas ≡ 1 }
     ensures seat { IsSameSeat pool.now seat.old seat.new }
     ensures others { (place : ℕ) → place ≢ 4 → granted_at (view seat.new) place ≡ granted_at (view seat.old) place }
 {
-    match grant(pool, seat, 4, 0, 0) {
+    buddy_arena::laws::mask_tests_clear();
+    let bits = mask(4, 0);
+    if word & bits != 0 {
+        return u64::MAX;
+    }
+    match grant(pool, seat, 4, 0, word) {
         Ok(granted) => {
             ungrant(pool, seat, granted);
-            0
+            u64::MAX
         }
         Err(lost) => lost.saw,
     }
@@ -33,7 +38,7 @@ fn grants_again(pool: &Pool<RealWorld>, seat: &mut PoolSeat<RealWorld>) -> bool
     ensures others { (place : ℕ) → place ≢ 4 → granted_at (view seat.new) place ≡ granted_at (view seat.old) place }
 {
     buddy_arena::laws::mask_tests_clear();
-    let saw = stale(pool, seat);
+    let saw = stale(pool, seat, 0);
     let bits = mask(4, 0);
     if saw & bits != 0 {
         return false;
@@ -48,11 +53,14 @@ fn grants_again(pool: &Pool<RealWorld>, seat: &mut PoolSeat<RealWorld>) -> bool
     }
 }
 
-/// Grants places 0 to 3 and then place 4, and gives both back: no bit is left set.
+/// Grants places 0 to 3 and then place 4, and gives both back: no bit is left set. Before, a word with bits loses to the one without.
 fn grants_in_turn(pool: &Pool<RealWorld>, seat: &mut PoolSeat<RealWorld>) -> bool
     requires seat { IsSeatOf pool.now seat.old }
     requires arenas { (sizes_of pool.now).arenas ≡ 1 }
 {
+    if stale(pool, seat, 0xF) != 0 {
+        return false;
+    }
     match grant(pool, seat, 0, 2, 0) {
         Ok(first) => {
             let again = grants_again(pool, seat);

@@ -11,7 +11,7 @@ struct Row {
     values: &'static [i64],
 }
 
-const ROWS: [Row; 12] = [
+const ROWS: [Row; 13] = [
     Row {
         bytes: b"\x0A\x27\x10",
         signed: false,
@@ -66,6 +66,11 @@ const ROWS: [Row; 12] = [
         bytes: b"\xC0\x04\x05\x01",
         signed: false,
         values: &[5, 4, 3, 2, 1],
+    },
+    Row {
+        bytes: b"\xFE\x02\x00\x02\xC0\x00\x00\x00\x00\x00\x00\x00",
+        signed: true,
+        values: &[0, 1, -4611686018427387903],
     },
     Row {
         bytes: b"\xC0\x00\x05\x01\x99",
