@@ -34,7 +34,8 @@ use Rattle.tail_faults.specs.Laws.{StripeFootersHaveThreeFaults}
 use Rattle.scan_failures.specs.Faults.{broken_failure}
 use Rattle.fragment_scan.specs.Outcomes.{IsOutcomeFor}
 use Rattle.fragment_scan.specs.Scanned.{FoldsStripes}
-use Rattle.fragment_scan.proofs.Forms.{fold_is_for, answered_no_read, if_answered, broken_no_read, broken_unended, broken_is_for, broken_so}
+use Rattle.fragment_scan.specs.Scanned.Walked.{whole as walked_whole, stopped as walked_stopped}
+use Rattle.fragment_scan.proofs.Forms.{fold_is_for, answered_no_read, broken_no_read, broken_is_for, broken_so}
 
 -- ---- told files hold bytes
 
@@ -108,7 +109,7 @@ module _ {S : Type 0} (did : S → List Act → S → Type 0) (count : S → ℕ
   whole y law bounded are begins last w = record {
     acts = w.acts;
     by = w.by;
-    rest = if_answered (ended last) _ (w.pieces, w.walk);
+    rest = walked_whole (ended last) w.walk;
     cause = record { later = w.cause.later; failed = λ e. absurd (answered_no_read (ended last) e) };
     is_for = is_for_by named fold w.pieces last last.over refl begins w.eaten;
     means = λ bytes has tail_is. λ no_fault.
@@ -122,7 +123,7 @@ module _ {S : Type 0} (did : S → List Act → S → Type 0) (count : S → ℕ
   broke three last why w = record {
     acts = w.acts;
     by = w.by;
-    rest = broken_unended why _;
+    rest = walked_stopped (stop.Fault why) w.stops;
     cause = record { later = w.cause.later; failed = λ e. absurd (broken_no_read why e) };
     is_for = broken_is_for why w.content;
     means = λ bytes has tail_is. λ no_fault.
@@ -135,7 +136,7 @@ module _ {S : Type 0} (did : S → List Act → S → Type 0) (count : S → ℕ
   unread last why w = record {
     acts = w.acts;
     by = w.by;
-    rest = tt;
+    rest = walked_stopped (stop.Read why) w.stops;
     cause = record { later = w.cause.later; failed = λ e. w.cause.failed tt };
     is_for = tt;
     means = λ bytes has tail_is. λ no_fault. absurd (no_fault refl);
@@ -145,7 +146,7 @@ module _ {S : Type 0} (did : S → List Act → S → Type 0) (count : S → ℕ
   unkept last w = record {
     acts = w.acts;
     by = w.by;
-    rest = tt;
+    rest = walked_stopped stop.NoMemory w.stops;
     cause = record { later = w.cause.later; failed = λ e. absurd cc };
     is_for = tt;
     means = λ bytes has tail_is. tt;

@@ -37,7 +37,7 @@ use Rattle.fold_consumer.specs.Pieces.{with_piece, with_pieces}
 use Rattle.tail_faults.specs.Laws.{IsFooterFault, StripeFootersHaveThreeFaults}
 use Rattle.scan_failures.specs.Faults.{footer_failure, broken_failure}
 use Rattle.fragment_scan.specs.Outcomes.{IsScanFailure, IsAnswerFor, IsOutcomeFor}
-use Rattle.fragment_scan.specs.Scanned.{IfOverflow, IfEnded, IsReadFault}
+use Rattle.fragment_scan.specs.Scanned.{IsReadFault}
 
 -- ---- a fold ends in its own form
 
@@ -139,10 +139,6 @@ pub answered_no_read : (a : Result Answer Overflow) → IsReadFault (Ok (answere
 answered_no_read (Ok x) e = absurd cc
 answered_no_read (Err why) e = absurd cc
 
-pub if_answered : (a : Result Answer Overflow) (P : Type 0) → P → IfEnded (Ok (answered a)) P
-if_answered (Ok x) P p = p
-if_answered (Err why) P p = p
-
 -- ---- rows that break
 
 pub broken_no_read : (why : RowsFault) → IsReadFault (Ok (failed (broken_failure why))) → ⊥
@@ -158,20 +154,6 @@ broken_no_read (broken.BrokenFooter stripe fault.StreamOutOfStripe) e = absurd c
 broken_no_read (broken.BrokenFooter stripe (fault.Read failed)) e = absurd cc
 broken_no_read (broken.BrokenFooter stripe fault.NoMemory) e = absurd cc
 broken_no_read (broken.BrokenColumn stripe column why) e = absurd cc
-
-pub broken_unended : (why : RowsFault) (P : Type 0) → IfOverflow (broken_failure why) P
-broken_unended (broken.BrokenFooter stripe fault.TooShort) P = tt
-broken_unended (broken.BrokenFooter stripe fault.NotOrc) P = tt
-broken_unended (broken.BrokenFooter stripe (fault.Compressed kind)) P = tt
-broken_unended (broken.BrokenFooter stripe (fault.Wire wire)) P = tt
-broken_unended (broken.BrokenFooter stripe fault.OutOfFile) P = tt
-broken_unended (broken.BrokenFooter stripe fault.BadTypes) P = tt
-broken_unended (broken.BrokenFooter stripe fault.TooLarge) P = tt
-broken_unended (broken.BrokenFooter stripe fault.RootPresent) P = tt
-broken_unended (broken.BrokenFooter stripe fault.StreamOutOfStripe) P = tt
-broken_unended (broken.BrokenFooter stripe (fault.Read failed)) P = tt
-broken_unended (broken.BrokenFooter stripe fault.NoMemory) P = tt
-broken_unended (broken.BrokenColumn stripe column why) P = tt
 
 pub broken_is_for : (why : RowsFault) → IsRowsContent why → IsScanFailure (broken_failure why)
 broken_is_for (broken.BrokenFooter stripe fault.TooShort) is = tt

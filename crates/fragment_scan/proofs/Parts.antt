@@ -15,6 +15,8 @@ use Rattle.orc_tail.specs.Tail.{tail}
 use Rattle.orc_tail.specs.Reads.{ending, tail_plan}
 use Rattle.orc_streams.specs.declared.layout.ReadColumn.{ReadColumn}
 use Rattle.orc_streams.specs.Acts.{Act, read_acts}
+use Rattle.orc_walk.specs.declared.stop.Stop.TheVariants as stop
+use Rattle.orc_walk.specs.StripeWalk.StripesStop.{unbegun}
 use Rattle.fragment_plan.specs.declared.fragment.Scan.{Scan}
 use Rattle.fragment_outcome.specs.declared.failure.Failure.{Failure}
 use Rattle.fragment_outcome.specs.declared.outcome.Outcome.{Outcome}
@@ -23,6 +25,7 @@ use Rattle.fragment_meaning.specs.ScanOutcome.{failed, tail_failure, IsOutcomeOf
 use Rattle.scan_failures.specs.Faults.{tail_outcome}
 use Rattle.fragment_scan.specs.Outcomes.{IsOutcomeFor}
 use Rattle.fragment_scan.specs.Scanned.{IfDecided, IsReadFault, RestByColumns, ScansFile, ScansParts, FoldsStripes}
+use Rattle.fragment_scan.specs.Scanned.Walked.{stopped}
 use Rattle.fragment_scan.proofs.Forms.{columns_so}
 
 decided_map : (answer : Result Outcome NoMemory) (P Q : Outcome → Type 0) → ((o : Outcome) → P o → Q o) → IfDecided answer P → IfDecided answer Q
@@ -40,8 +43,8 @@ cause_then first before after F le cause = record { later = omega (arith, le, ca
 
 module _ {S : Type 0} (did : S → List Act → S → Type 0) (count : S → ℕ) (files : Option Files) (file : FileRef) (scan : Scan) (parts : Tail) where
   rest_by : (judged : Result (List ReadColumn) Failure) → RestByColumns files file parts.stripes judged [] (Err (record {}))
-  rest_by (Ok named) = tt
-  rest_by (Err why) = refl
+  rest_by (Ok named) = stopped stop.NoMemory unbegun
+  rest_by (Err why) = (refl, tt)
 
   -- the scan can't read its columns
   pub parts_fail : ((reader : S) → did reader [] reader) → (reader : S) (why : Failure) → scan_columns scan parts.columns ≡ Err why
@@ -51,7 +54,7 @@ module _ {S : Type 0} (did : S → List Act → S → Type 0) (count : S → ℕ
       record {
         acts = [];
         by = nothing reader;
-        rest = subst (λ (r : Result (List ReadColumn) Failure). RestByColumns files file parts.stripes r [] (Ok (failed why))) (sym judged) refl;
+        rest = subst (λ (r : Result (List ReadColumn) Failure). RestByColumns files file parts.stripes r [] (Ok (failed why))) (sym judged) (refl, refl);
         cause = record { later = omega arith; failed = λ e. absurd (misses.1 e) };
         is_for = misses.0;
         means = λ bytes has tail_is. λ no_fault.
@@ -145,7 +148,7 @@ module _ {S : Type 0} (did : S → List Act → S → Type 0) (count : S → ℕ
       acts_are = refl;
       own = tt;
       tail_read = λ bytes has. record { front = []; rest = (tail_plan file bytes).reads; planned_is = refl; entries_are = refl };
-      then_is = refl;
+      then_is = (refl, refl);
     };
     cause = record { later = omega arith; failed = λ e. absurd cc };
     is_for = tt;
@@ -167,7 +170,7 @@ module _ {S : Type 0} (did : S → List Act → S → Type 0) (count : S → ℕ
         acts_are = sym (append-nil (read_acts f.entries));
         own = f.own;
         tail_read = f.fits;
-        then_is = refl;
+        then_is = (refl, refl);
       };
       cause = record {
         later = omega (arith, f.cause.later, one_count before, one_count between);

@@ -1,7 +1,6 @@
 -- Which outcomes a scan can have, whatever its file holds. Source: this project's own.
-use Rattle.orc_tail.specs.declared.fault.TailFault.{TailFault}
-use Rattle.orc_tail.specs.declared.fault.TailFault.TheVariants as fault
 use Rattle.orc_rows.specs.Judging.{IsContent}
+use Rattle.tail_faults.specs.Words.{TailHasWords}
 use Rattle.fragment_plan.specs.declared.fragment.Scan.{Scan}
 use Rattle.fragment_plan.specs.declared.fragment.FoldKind.{FoldKind}
 use Rattle.fragment_plan.specs.declared.fragment.FoldKind.TheVariants as kind
@@ -12,18 +11,10 @@ use Rattle.fragment_outcome.specs.declared.failure.Failure.TheVariants as failur
 use Rattle.fragment_outcome.specs.declared.outcome.Outcome.{Outcome}
 use Rattle.fragment_outcome.specs.declared.outcome.Outcome.TheVariants as outcome
 
--- a fault of a tail or of a stripe's footer that is printed: a compression is a failure of its own, and a failed read or want of memory is
--- no fault of the file
-abbrev pub HasWords : TailFault → Type 0
-HasWords (fault.Compressed kind) = ⊥
-HasWords (fault.Read failed) = ⊥
-HasWords fault.NoMemory = ⊥
-HasWords why = Unit {0}
-
 -- A failure that a scan can have: not that of a merge, and none that holds a fault without words.
 abbrev pub IsScanFailure : Failure → Type 0
-IsScanFailure (failure.BrokenTail why) = HasWords why
-IsScanFailure (failure.BrokenFooter stripe why) = HasWords why
+IsScanFailure (failure.BrokenTail why) = TailHasWords why
+IsScanFailure (failure.BrokenFooter stripe why) = TailHasWords why
 IsScanFailure (failure.BrokenColumn stripe column why) = IsContent why
 IsScanFailure (failure.SourceFailed source) = ⊥
 IsScanFailure other = Unit {0}

@@ -15,34 +15,20 @@ use Rattle.orc_tail.specs.Reads.{ending, tail_plan}
 use Rattle.orc_streams.specs.declared.layout.ReadColumn.{ReadColumn}
 use Rattle.orc_streams.specs.Acts.{Act, read_acts}
 use Rattle.orc_batches.specs.Batch.{Piece}
-use Rattle.orc_walk.specs.StripeWalk.{AreStripeWalks}
+use Rattle.orc_rows.specs.declared.fault.RowsFault.{RowsFault}
+use Rattle.orc_walk.specs.declared.stop.Stop.{Stop}
+use Rattle.orc_walk.specs.declared.stop.Stop.TheVariants as stop
+use Rattle.orc_walk.specs.StripeWalk.{AreStripeWalks, StripesStop}
 use Rattle.fragment_plan.specs.declared.fragment.Scan.{Scan}
+use Rattle.fragment_outcome.specs.declared.answer.Answer.{Answer}
 use Rattle.fragment_outcome.specs.declared.failure.Failure.{Failure}
 use Rattle.fragment_outcome.specs.declared.failure.Failure.TheVariants as failure
 use Rattle.fragment_outcome.specs.declared.outcome.Outcome.{Outcome}
-use Rattle.fragment_outcome.specs.declared.outcome.Outcome.TheVariants as outcome
+use Rattle.fragment_folds.specs.declared.faults.Overflow.{Overflow}
 use Rattle.fragment_meaning.specs.ScanColumns.{by_number, scan_columns}
-use Rattle.fragment_meaning.specs.ScanOutcome.{failed, IsOutcomeOfStripes, IsOutcomeOfColumns, IsOutcomeOn}
+use Rattle.fragment_meaning.specs.ScanOutcome.{failed, answered, IsOutcomeOfStripes, IsOutcomeOfColumns, IsOutcomeOn}
+use Rattle.scan_failures.specs.Faults.{broken_failure, tail_outcome}
 use Rattle.fragment_scan.specs.Outcomes.{IsOutcomeFor}
-
--- this is so where the whole total is too large, which is seen once all rows were walked
-abbrev pub IfOverflow : Failure → Type 0 → Type 0
-IfOverflow failure.NoFile P = Unit {0}
-IfOverflow (failure.Compressed kind) P = Unit {0}
-IfOverflow (failure.BrokenTail fault) P = Unit {0}
-IfOverflow (failure.BrokenFooter stripe fault) P = Unit {0}
-IfOverflow (failure.BrokenColumn stripe column fault) P = Unit {0}
-IfOverflow (failure.NoColumn name) P = Unit {0}
-IfOverflow (failure.WrongKind name) P = Unit {0}
-IfOverflow failure.Overflow P = P
-IfOverflow (failure.SourceFailed source) P = Unit {0}
-IfOverflow failure.ReadFault P = Unit {0}
-
--- this is so where all rows were walked: at an answer, or where the whole total is too large
-abbrev pub IfEnded : Result Outcome NoMemory → Type 0 → Type 0
-IfEnded (Ok (outcome.Answer a)) P = P
-IfEnded (Ok (outcome.Failure why)) P = IfOverflow why P
-IfEnded (Err refused) P = Unit {0}
 
 -- a read failed
 abbrev pub IsReadFault : Result Outcome NoMemory → Type 0
@@ -54,21 +40,30 @@ IfDecided answer P = IfOk answer (λ o. o ≢ failed failure.ReadFault → P o)
 
 -- ---- acts
 
--- with an answer or an overflow, a walk over all stripes by ascending numbers of the columns, each once; with no column no stripe's
--- footer is read
-abbrev pub WalkedWhole : Option Files → FileRef → List Stripe → List ReadColumn → List Act → Result Outcome NoMemory → Type 0
-WalkedWhole files file stripes named rest answer =
-    IfEnded answer ((pieces : List Piece) × AreStripeWalks files file (by_number named) stripes pieces rest)
+-- what a walk that stopped is answered as
+abbrev pub answer_of_stop : Stop RowsFault → Result Outcome NoMemory
+answer_of_stop (stop.Fault why) = Ok (failed (broken_failure why))
+answer_of_stop (stop.Read why) = Ok (failed failure.ReadFault)
+answer_of_stop stop.NoMemory = Err (record {})
 
--- where the scan can't read its columns, nothing more is done
+-- A walk over the stripes, by ascending numbers of the columns, each once: over all of them, with an answer or an overflow; or up to
+-- where it stopped, with what that is answered as. With no column no stripe's footer is read.
+pub data Walked (files : Option Files) (file : FileRef) (stripes : List Stripe) (named : List ReadColumn) :
+    List Act → Result Outcome NoMemory → Type 0 where
+  whole : {pieces : List Piece} {acts : List Act} (answer : Result Answer Overflow)
+      → AreStripeWalks files file (by_number named) stripes pieces acts → Walked files file stripes named acts (Ok (answered answer))
+  stopped : {pieces : List Piece} {acts : List Act} (why : Stop RowsFault)
+      → StripesStop files file (by_number named) 0 stripes pieces why acts → Walked files file stripes named acts (answer_of_stop why)
+
+-- where the scan can't read its columns, nothing more is done, and an outcome is just that failure
 abbrev pub RestByColumns : Option Files → FileRef → List Stripe → Result (List ReadColumn) Failure → List Act → Result Outcome NoMemory
     → Type 0
-RestByColumns files file stripes (Err why) rest answer = rest ≡ []
-RestByColumns files file stripes (Ok named) rest answer = WalkedWhole files file stripes named rest answer
+RestByColumns files file stripes (Err why) rest answer = (rest ≡ []) × IfOk answer (λ o. o ≡ failed why)
+RestByColumns files file stripes (Ok named) rest answer = Walked files file stripes named rest answer
 
--- what was done behind the tail, and what it was
+-- what was done behind the tail: nothing where that is refused, and the answer is just what becomes of its fault
 abbrev pub RestIs : Option Files → FileRef → Scan → Result Tail TailFault → List Act → Result Outcome NoMemory → Type 0
-RestIs files file scan (Err why) rest answer = rest ≡ []
+RestIs files file scan (Err why) rest answer = (rest ≡ []) × (answer ≡ tail_outcome why)
 RestIs files file scan (Ok parts) rest answer = RestByColumns files file parts.stripes (scan_columns scan parts.columns) rest answer
 
 -- The acts of a scan: in front the reads of the file's tail, which are, where the file is told, its last bytes and then its footer; and
@@ -108,7 +103,7 @@ module _ {S : Type 0} (did : S → List Act → S → Type 0) (count : S → ℕ
   pub record FoldsStripes (parts : Tail) (named : List ReadColumn) (before after : S) (answer : Result Outcome NoMemory) : Type 0 where
     pub acts : List Act
     pub by : did before acts after
-    pub rest : WalkedWhole files file parts.stripes named acts answer
+    pub rest : Walked files file parts.stripes named acts answer
     pub cause : Cause (count before) (count after) (IsReadFault answer)
     pub is_for : IfOk answer (IsOutcomeFor scan)
     pub means : (bytes : List ℕ) → HasBytes files file bytes → tail bytes ≡ Ok parts

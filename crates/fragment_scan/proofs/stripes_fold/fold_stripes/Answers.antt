@@ -1,4 +1,4 @@
-use Rattle.fragment_scan.proofs.Folded.{folds_whole, folds_broke, folds_unkept}
+use Rattle.fragment_scan.proofs.Folded.{folds_whole, folds_broke, folds_unread, folds_unkept}
 use Rattle.fragment_scan.proofs.stripes_fold.fold_stripes.Goals as goal
 
 pub returns-in-Ok : goal.returns-in-Ok
@@ -18,6 +18,14 @@ returns-in-Err-Fault g c =
       folds = rw (c.broken_failure.ensures, c.in-Err-Fault.field-0-is)
           (folds_broke g.S.StreamReader.did g.S.Feed.fault_count g.W.World.files c.args.file c.args.tail.now c.args.named.now c.args.fold c.args.reader.now c.walk_stripes.new.reader
           c.stripe_footers_have_three_faults.ensures c.args.read.now c.walk_stripes.new.consumer c.in-Err-Fault.fault c.requires.goes_by.read_is w);
+    }
+
+pub returns-in-Err-Read : goal.returns-in-Err-Read
+returns-in-Err-Read g c =
+    let w = rw (c.new-consumer.ensures, c.as_slice-stripes.ensures, c.in-Err-Read.field-0-is) at c.in-Err-Read.ensures.walks in
+    record {
+      folds = folds_unread g.S.StreamReader.did g.S.Feed.fault_count g.W.World.files c.args.file c.args.tail.now c.args.named.now c.args.fold c.args.reader.now c.walk_stripes.new.reader
+          c.args.read.now c.walk_stripes.new.consumer c.in-Err-Read.field-0-0 c.requires.goes_by.read_is w;
     }
 
 pub returns : goal.returns
