@@ -74,6 +74,23 @@ pub record Call : Type 0 where
   pub store_reads : Option (List FileRange)
   pub store_reads' : Option (List FileRange)
 
+-- a call with those words, by what source and store tell of themselves before and after
+abbrev pub call_of : {P S : Type 0} → (P → Option (List ℕ)) → (P → ℕ) → (S → ℕ) → (S → Option (List FileRange)) → Option Files
+    → List (List ℕ) → P → P → S → S → Call
+call_of left plan_count store_count reads told words plan plan' store store' =
+    record {
+      told = told;
+      words = words;
+      left = left plan;
+      left' = left plan';
+      plan_faults = plan_count plan;
+      plan_faults' = plan_count plan';
+      store_faults = store_count store;
+      store_faults' = store_count store';
+      store_reads = reads store;
+      store_reads' = reads store';
+    }
+
 -- what a run of these bytes in a call has to write
 abbrev pub PrintsIn : Call → (List Fragment → List Outcome → CacheTotals → Type 0) → Type 0 → List ℕ → Status → List ℕ → Type 0
 PrintsIn call Through store_untouched bytes =
@@ -98,6 +115,12 @@ pub record IsUnread (call : Call) (store_untouched : Type 0) : Type 0 where
   pub good : AreGood call.words options
   pub rose : Rose call.plan_faults call.plan_faults'
   pub store : store_untouched
+
+-- what an answer of a call says, of the sink's content before and after: its text, and that the plan wasn't read, are those of the call
+abbrev pub AnswersCall : Call → (Options → List Fragment → List Outcome → CacheTotals → Type 0) → Type 0 → Type 0 → Type 0
+    → Option (List ℕ) → Option (List ℕ) → Status → Type 0
+AnswersCall call Through source_untouched store_untouched SinkRose before after status =
+    Answers (Writes call Through source_untouched store_untouched) SinkRose (IsUnread call store_untouched) before after status
 
 -- ---- completeness
 

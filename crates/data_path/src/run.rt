@@ -2,7 +2,7 @@
 ghost use Rattle.std.specs.Prelude.{◌≡◌, IfOk, map};
 ghost use Rattle.outside.specs.Cause.{Rose};
 ghost use Rattle.data_path.specs.Geometries.{IsThrough};
-ghost use Rattle.data_path.specs.Headline.{Answers, Completes, CompletesGenerated, IsUnread, Writes};
+ghost use Rattle.data_path.specs.Headline.{AnswersCall, Completes, CompletesGenerated, call_of};
 ghost use Rattle.data_path.specs.PlanBytes.{IsFault};
 ghost use Rattle.data_path.specs.Steps.{ChosenPlan, NotRead};
 
@@ -62,64 +62,18 @@ pub fn llapd<W: World, P: Source, S: Store<W> + Send + Drop, K: Sink, G: Gate + 
     out: &mut K,
     _gate: &G,
 ) -> Status
-    ensures answers { Answers
-        (Writes
-        (record {
-          told = W.files;
-          words = map (λ word. word.now) words.now;
-          left = P.left plan.old;
-          left' = P.left plan.new;
-          plan_faults = P.fault_count plan.old;
-          plan_faults' = P.fault_count plan.new;
-          store_faults = S.fault_count last.old;
-          store_faults' = S.fault_count last.new;
-          store_reads = S.reads last.old;
-          store_reads' = S.reads last.new;
-        })
-        (IsThrough W W.files (S.reads last.old) (S.reads last.new)) (plan.new ≡ plan.old) (last.new ≡ last.old))
-        (Rose (K.fault_count out.old) (K.fault_count out.new))
-        (IsUnread
-        (record {
-          told = W.files;
-          words = map (λ word. word.now) words.now;
-          left = P.left plan.old;
-          left' = P.left plan.new;
-          plan_faults = P.fault_count plan.old;
-          plan_faults' = P.fault_count plan.new;
-          store_faults = S.fault_count last.old;
-          store_faults' = S.fault_count last.new;
-          store_reads = S.reads last.old;
-          store_reads' = S.reads last.new;
-        })
-        (last.new ≡ last.old))
-        (K.content out.old) (K.content out.new) result }
+    ensures answers { AnswersCall
+        (call_of P.left P.fault_count S.fault_count S.reads W.files (map (λ word. word.now) words.now)
+        plan.old plan.new last.old last.new)
+        (IsThrough W W.files (S.reads last.old) (S.reads last.new)) (plan.new ≡ plan.old) (last.new ≡ last.old)
+        (Rose (K.fault_count out.old) (K.fault_count out.new)) (K.content out.old) (K.content out.new) result }
     ensures complete { Completes
-        (record {
-          told = W.files;
-          words = map (λ word. word.now) words.now;
-          left = P.left plan.old;
-          left' = P.left plan.new;
-          plan_faults = P.fault_count plan.old;
-          plan_faults' = P.fault_count plan.new;
-          store_faults = S.fault_count last.old;
-          store_faults' = S.fault_count last.new;
-          store_reads = S.reads last.old;
-          store_reads' = S.reads last.new;
-        })
+        (call_of P.left P.fault_count S.fault_count S.reads W.files (map (λ word. word.now) words.now)
+        plan.old plan.new last.old last.new)
         (Rose (K.fault_count out.old) (K.fault_count out.new)) (K.content out.old) (K.content out.new) result }
     ensures complete_generated { CompletesGenerated
-        (record {
-          told = W.files;
-          words = map (λ word. word.now) words.now;
-          left = P.left plan.old;
-          left' = P.left plan.new;
-          plan_faults = P.fault_count plan.old;
-          plan_faults' = P.fault_count plan.new;
-          store_faults = S.fault_count last.old;
-          store_faults' = S.fault_count last.new;
-          store_reads = S.reads last.old;
-          store_reads' = S.reads last.new;
-        })
+        (call_of P.left P.fault_count S.fault_count S.reads W.files (map (λ word. word.now) words.now)
+        plan.old plan.new last.old last.new)
         (Rose (K.fault_count out.old) (K.fault_count out.new)) (K.content out.old) (K.content out.new) result }
 {
     quiet_runs_mean_the_plan();
