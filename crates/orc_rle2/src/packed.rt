@@ -55,19 +55,20 @@ fn value_at(bytes: &[u8], width: u32, mask: u64, index: usize) -> u64
     (word_at(bytes, place as usize / 8) >> behind) & mask
 }
 
-/// The number at a place in a group of eight.
+/// The number at a place in a group of eight. It is read from the group's own bytes and eight behind them, whose length is known once
+/// the width is, so that there is one test for the group and none for its numbers.
 #[inline(always)]
-fn value_in(bytes: &[u8], width: u32, mask: u64, group: usize, place: u32) -> u64
+fn value_in(bytes: &[u8], width: u32, mask: u64, group: usize, place: usize) -> u64
     requires width { IsWidth width }
     requires mask { mask ≡ 2 ^ width - 1 }
     requires few { group < 64 }
     requires within { place < 8 }
-    requires room { width * (8 * group + place) / 8 + 8 ≤ length bytes.now }
+    requires room { width * group + (width + 8) ≤ length bytes.now }
     ensures { result ≡ bits_to bytes.now width (width * (8 * group + place + 1)) }
 {
-    let bits = width * place;
-    let at = width as usize * group + bits as usize / 8;
-    (word_at(bytes, at) >> (64 - (bits % 8 + width))) & mask
+    let (_, rest) = bytes.split_at(width as usize * group);
+    let (part, _) = rest.split_at(width as usize + 8);
+    value_at(part, width, mask, place)
 }
 
 /// Unpacks numbers of this width, and writes the values that they stand for to `into`, which says how many.
@@ -83,8 +84,8 @@ fn unpack(bytes: &[u8], width: u32, signed: bool, into: &mut [i64])
     let mask = low_bits(width);
     let groups = into.len() / 8;
     for group in 0..groups {
-        for place in 0..8u32 {
-            into[8 * group + place as usize] = bits_of(
+        for place in 0..8 {
+            into[8 * group + place] = bits_of(
                 signed,
                 value_in(bytes, width, mask, group, place),
             ).cast_signed();
