@@ -70,6 +70,23 @@ fn file_of_lists(alloc: Global) -> Option<Vec<u8>> {
     write_tail(alloc, &[], &columns, 0).ok()
 }
 
+/// The front of that file's footer: the types of its rows, of `x`, of `l` and of its elements, and of `y`.
+const LIST_TYPES: [u8; 37] = [
+    0x22, 0x10, 0x08, 0x0C, 0x12, 0x03, 0x01, 0x02, 0x04, 0x1A, 0x01, 0x78, 0x1A, 0x01, 0x6C, 0x1A,
+    0x01, 0x79, 0x22, 0x02, 0x08, 0x04, 0x22, 0x05, 0x08, 0x0A, 0x12, 0x01, 0x03, 0x22, 0x02, 0x08,
+    0x04, 0x22, 0x02, 0x08, 0x07,
+];
+
+fn types_are_written(alloc: Global) -> Option<bool> {
+    let bytes = file_of_lists(alloc)?;
+    Some(bytes.as_slice().starts_with(&LIST_TYPES))
+}
+
+#[test]
+fn types_stand_in_order(rt: HostRuntime) {
+    assert!(rt; types_are_written(rt.alloc()) == Some(true));
+}
+
 /// The tail of a file.
 fn tail_of(alloc: Global, bytes: &[u8]) -> Option<Tail> {
     let mut store = OneFile::new(alloc, bytes, usize::MAX);

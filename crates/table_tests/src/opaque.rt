@@ -125,3 +125,19 @@ fn a_first_row_that_is_not_refused_stands_alone(rt: HostRuntime) {
 fn a_column_that_nobody_reads_is_kept(rt: HostRuntime) {
     assert!(rt; is_kept(rt.alloc()) == Some(true));
 }
+
+/// Whether a row is taken that has a value for each column but the LIST, and none that is shorter, longer or of another kind.
+fn takes_rows_that_fit(alloc: Global) -> Option<bool> {
+    let mut writer = writer_of(alloc, &COLUMNS, 2)?;
+    push_list(alloc, &mut writer)?;
+    let fits = writer.takes(&[Value::Int(1), Value::Null]);
+    let short = writer.takes(&[Value::Int(1)]);
+    let long = writer.takes(&[Value::Int(1), Value::Null, Value::Int(3)]);
+    let other = writer.takes(&[Value::Int(1), Value::Bool(true)]);
+    Some(fits && !short && !long && !other)
+}
+
+#[test]
+fn rows_that_do_not_fit_are_not_taken(rt: HostRuntime) {
+    assert!(rt; takes_rows_that_fit(rt.alloc()) == Some(true));
+}
