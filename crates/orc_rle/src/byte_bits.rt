@@ -48,7 +48,28 @@ pub fn bits_of_byte(byte: u8) -> [bool; 8]
 }
 
 /// Writes the bits of these bytes to `out`, which has room for just these.
+///
+/// It goes on by eight bytes, so that a turn of the loop costs little beside the rows that it copies.
 pub fn unpack(bytes: &[u8], out: &mut [bool])
+    requires { length out.old ≡ 8 * length bytes.now }
+    ensures { out.new ≡ bits_of bytes.now }
+{
+    let mut left = bytes;
+    let mut done = 0;
+    while let Some((eight, behind)) = left.split_first_chunk::<8>() {
+        let (_, open) = out.split_at_mut(8 * done);
+        let (group, _) = open.split_at_mut(64);
+        unpack_each(eight, group);
+        left = behind;
+        done += 8;
+    }
+    let (_, open) = out.split_at_mut(8 * done);
+    unpack_each(left, open);
+}
+
+/// Does what `unpack` does, one byte at a time.
+#[inline(always)]
+fn unpack_each(bytes: &[u8], out: &mut [bool])
     requires { length out.old ≡ 8 * length bytes.now }
     ensures { out.new ≡ bits_of bytes.now }
 {
