@@ -1,5 +1,5 @@
 //! The bits of bytes, looked up eight at a time.
-ghost use Rattle.std.specs.Prelude.{◌≡◌, ◌*◌, length};
+ghost use Rattle.std.specs.Prelude.{◌≡◌, ◌*◌, ◌≤◌, ◌++◌, length, drop};
 ghost use Rattle.orc_rle.specs.BitRun.{byte_bits, bits_of};
 
 /// For each of these bytes its eight bits, the highest first.
@@ -75,7 +75,17 @@ fn unpack_each(bytes: &[u8], out: &mut [bool])
 {
     for (place, byte) in bytes.iter().enumerate() {
         let (_, open) = out.split_at_mut(8 * place);
-        let (eight, _) = open.split_at_mut(8);
-        eight.copy_from_slice(&bits_of_byte(*byte));
+        write_bits(*byte, open);
+    }
+}
+
+/// Writes the bits of a byte to the front of `out`.
+#[inline(always)]
+fn write_bits(byte: u8, out: &mut [bool])
+    requires { 8 ≤ length out.old }
+    ensures { out.new ≡ byte_bits byte ++ drop 8 out.old }
+{
+    if let Some(eight) = out.first_chunk_mut::<8>() {
+        *eight = bits_of_byte(byte);
     }
 }

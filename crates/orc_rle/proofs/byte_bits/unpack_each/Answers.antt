@@ -1,4 +1,4 @@
-use Rattle.std.proofs.Common.{◌≡◌, ◌∙◌, ℕ, ◌+◌, ◌*◌, ◌<◌, Bool, List, [], ◌∷◌, ◌++◌, length, take, get_or, sym, ap, arith, length-append}
+use Rattle.std.proofs.Common.{◌≡◌, ◌∙◌, ℕ, ◌+◌, ◌*◌, ◌<◌, Bool, List, [], ◌∷◌, ◌++◌, length, take, get_or, drop, refl, sym, ap, arith, length-append, length-drop}
 use Rattle.std.proofs.Math.Seq.{take-append-add}
 use Rattle.std.proofs.lemmas.List.{take_at, take_more}
 use Rattle.orc_rle.specs.BitRun.{byte_bits, bits_of}
@@ -20,16 +20,14 @@ loop-place-preserved c =
     let bytes = c.args.bytes.now in
     let place = c.loop-place.place in
     let front = c.split_at_mut-open.result.0.now in
-    let eight = c.copy_from_slice.new.self in
-    let back = c.split_at_mut-eight.result.1.now in
+    let open_at = c.split_at_mut-open.result.1.now in
+    let eight = byte_bits (get_or bytes place 0) in
+    let back = drop 8 open_at in
     let first = c.split_at_mut-open.ensures in
-    let second = c.split_at_mut-eight.ensures in
-    let len : length eight ≡ 8 = omega (arith, c.copy_from_slice.ensures.len, second.front_len) in
     let written : front ++ eight ≡ bits_of (take (place + 1) bytes) =
     ap (λ (l : List Bool). l ++ eight) (first.front ∙ c.loop-place.invariant.written)
-    ∙ ap (λ (l : List Bool). bits_of (take place bytes) ++ l) (c.copy_from_slice.ensures.after ∙ c.bits_of_byte.ensures)
     ∙ sym (bits_of_more bytes place c.loop-place-test.true) in
-    record {
-      room = omega (arith, length-append front (eight ++ back), length-append eight back, len, first.front_len, first.back_len, second.back_len, second.front_len, c.loop-place.invariant.room);
-      written = eight_more front eight back place first.front_len len ∙ written;
+    rw c.write_bits.ensures record {
+      room = omega (arith, length-append front (eight ++ back), length-append eight back, length-drop 8 open_at, first.front_len, first.back_len, c.loop-place.invariant.room, c.loop-place-test.true);
+      written = eight_more front eight back place first.front_len refl ∙ written;
     }
