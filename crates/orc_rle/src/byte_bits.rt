@@ -85,6 +85,7 @@ fn write_bits(byte: u8, out: &mut [bool])
     requires { 8 ≤ length out.old }
     ensures { out.new ≡ byte_bits byte ++ drop 8 out.old }
 {
+    // An array is stored at once, where two slices would first be tested for an overlap.
     if let Some(eight) = out.first_chunk_mut::<8>() {
         *eight = bits_of_byte(byte);
     }

@@ -56,6 +56,10 @@ impl OpenByte {
         ensures parts { self.old ≡ take result out.new ++ self.new }
         ensures all { result < length out.old → self.new ≡ [] }
     {
+        // Mostly a batch ends with a byte, and then no copy of nothing is called.
+        if self.from == 8 {
+            return 0;
+        }
         let left = &self.bits[self.from..];
         let count = left.len().min(out.len());
         let (front, _) = out.split_at_mut(count);
