@@ -1,7 +1,7 @@
 -- A slot gets a range, or lets it go: what the desk then holds, and what it did.
-use Rattle.std.proofs.Common.{◌≡◌, ℕ, ◌+◌, ◌<◌, ◌≤◌, suc, Bool, true, false, arith, List, [], ◌∷◌, length, refl, sym, ap, ◌∙◌, subst}
+use Rattle.std.proofs.Common.{◌≡◌, ℕ, ◌+◌, ◌-◌, ◌<◌, ◌≤◌, zero, suc, Bool, true, false, arith, List, [], ◌∷◌, length, refl, sym, ap, ◌∙◌, subst}
 use Rattle.std.specs.Prelude.{Option, Some, None, slice_set, ◌++◌, take, drop, if◌then◌else◌}
-use Rattle.std.proofs.lemmas.List.{append-nil, append_assoc, drop-set-lt, drop_all, length-map, map-set, set-get_or, take_all, take_more_set}
+use Rattle.std.proofs.lemmas.List.{append-nil, append_assoc, drop-drop, drop-set-lt, drop-take, drop_all, get_or-drop, length-map, map-set, set-get_or, take-append-drop, take-take, take_all, take_more_set}
 use Rattle.std.proofs.Math.Seq.{drop-cons}
 use Rattle.buffer_word.specs.declared.key_word.Key.{Key}
 use Rattle.outside.specs.declared.file_ref.FileRange.{FileRange}
@@ -55,6 +55,39 @@ emptied_keys s0 s1 slot f = ap keys_of f ∙ map-set key_of s0 slot None
 pub stays_empty : (slots : Slots) (slot : ℕ) → slot_at slots slot ≡ None → slice_set slots slot None ≡ slots
 stays_empty slots slot e = ap (λ (h : Option Held). slice_set slots slot h) (sym e) ∙ set-get_or slots slot None
 
+-- ---- slots that hold no key that is meant: no deed is of them, and they stay as they are
+
+passed : (of : Option Key) (n slot : ℕ) (keys : Keys) → ((i : ℕ) → i < n → means of (key_at keys i) ≡ false) → (drops_each of slot keys ≡ drops_each of (slot + n) (drop n keys)) × (left_of of keys ≡ take n keys ++ left_of of (drop n keys))
+passed of zero slot keys none = (ap (λ (i : ℕ). drops_each of i keys) (let e : slot ≡ slot + 0 = omega arith in e), refl)
+passed of (suc n) slot [] none = (refl, refl)
+passed of (suc n) slot (k ∷ ks) none =
+    let is : means of k ≡ false = none 0 (omega arith) in
+    let rest = passed of n (slot + 1) ks (λ i below. none (suc i) (omega arith)) in
+    let a : meant of k ≡ None = ap (λ (b : Bool). if b then k else None) is in
+    let b : others of k ≡ k = ap (λ (b : Bool). if b then None else k) is in (
+      ap (λ (x : Option Key). dropped slot x ++ drops_each of (slot + 1) ks) a ∙ rest.0
+          ∙ ap (λ (i : ℕ). drops_each of i (drop n ks)) (let e : slot + 1 + n ≡ slot + suc n = omega arith in e),
+      ap (λ (x : Option Key). x ∷ left_of of ks) b ∙ ap (λ (ls : Keys). k ∷ ls) rest.1,
+    )
+
+take_then : (i n : ℕ) (keys : Keys) → take i keys ++ take n (drop i keys) ≡ take (i + n) keys
+take_then i n keys =
+    ap (λ (ls : Keys). ls ++ take n (drop i keys)) (sym (take-take i (i + n) keys (omega arith)))
+    ∙ ap (λ (ls : Keys). take i (take (i + n) keys) ++ ls) (sym (drop-take i n keys)) ∙ take-append-drop i (take (i + n) keys)
+
+passed_over : (of : Option Key) (slot at : ℕ) (keys : Keys) → slot ≤ at → ((i : ℕ) → slot ≤ i → i < at → means of (key_at keys i) ≡ false) → (drops_each of slot (drop slot keys) ≡ drops_each of at (drop at keys)) × (take slot keys ++ left_of of (drop slot keys) ≡ take at keys ++ left_of of (drop at keys))
+passed_over of slot at keys from none =
+    let n : ℕ = at - slot in
+    let e : slot + n ≡ at = omega arith in
+    let ks : Keys = drop slot keys in
+    let over = passed of n slot ks (λ i below. ap (λ (k : Option Key). means of k) (get_or-drop slot keys i None) ∙ none (slot + i) (omega arith) (omega arith)) in
+    let rest : drop n ks ≡ drop at keys = drop-drop n slot keys ∙ ap (λ (i : ℕ). drop i keys) e in
+    let front : take slot keys ++ take n ks ≡ take at keys = take_then slot n keys ∙ ap (λ (i : ℕ). take i keys) e in (
+      over.0 ∙ ap (λ (i : ℕ). drops_each of i (drop n ks)) e ∙ ap (λ (ls : Keys). drops_each of at ls) rest,
+      ap (λ (ls : Keys). take slot keys ++ ls) over.1 ∙ sym (append_assoc (take slot keys) (take n ks) (left_of of (drop n ks)))
+          ∙ ap (λ (ls : Keys). ls ++ left_of of (drop n ks)) front ∙ ap (λ (ls : Keys). take at keys ++ left_of of ls) rest,
+    )
+
 module _ (files : Option Files) {W S : Type 0} (reads : S → Option (List FileRange)) where
   pub get_ok : (key : Key) (ranged : Ranged) (d0 d1 : Desk W S) (seat : PoolSeat W) (s0 s1 : Slots) (slot : ℕ) → DeskHolds (moment d0 s0) → IsGot files reads key ranged d0 d1 → IsSeatOf (pool_of d0.cache.now) d1.seat.now → IsEvictorOf (pool_of d0.cache.now) d1.evictor.now → IsRanged (pool_of d0.cache.now) d1.seat.now ranged × (range_key ranged ≡ key) → slot < length s0 → slot_at s0 slot ≡ None → seat ≡ d1.seat.now → s1 ≡ slice_set s0 slot (Some (held_of key ranged)) → DeskHolds (moment (reseated d1 seat) s1) × Ran files reads (moment d0 s0) (gets slot key ∷ []) (moment (reseated d1 seat) s1)
   get_ok key ranged d0 d1 seat s0 s1 slot i got of evicts is below empty e f =
@@ -101,13 +134,6 @@ module _ (files : Option Files) {W S : Type 0} (reads : S → Option (List FileR
       let b : others of key ≡ None = ap (λ (b : Bool). if b then None else key) e in
       (subst (λ (x : Option Key). Ran files reads m (dropped slot x) n) (sym a) r, k ∙ ap (λ (x : Option Key). slice_set (keys_of m.slots) slot x) (sym b))
 
-  pub if_other : (of : Option Key) (slot : ℕ) (m : Moment W S) → means of (key_at (keys_of m.slots) slot) ≡ false → Ran files reads m (dropped slot (meant of (key_at (keys_of m.slots) slot))) m × (keys_of m.slots ≡ slice_set (keys_of m.slots) slot (others of (key_at (keys_of m.slots) slot)))
-  if_other of slot m e =
-      let key : Option Key = key_at (keys_of m.slots) slot in
-      let a : meant of key ≡ None = ap (λ (b : Bool). if b then key else None) e in
-      let b : others of key ≡ key = ap (λ (b : Bool). if b then None else key) e in
-      (subst (λ (x : Option Key). Ran files reads m (dropped slot x) m) (sym a) refl, sym (set-get_or (keys_of m.slots) slot None) ∙ ap (λ (x : Option Key). slice_set (keys_of m.slots) slot x) (sym b))
-
   pub each_end : (of : Option Key) (slot : ℕ) (m : Moment W S) → length m.slots ≤ slot → Ran files reads m (drops_each of slot (drop slot (keys_of m.slots))) m × (keys_of m.slots ≡ take slot (keys_of m.slots) ++ left_of of (drop slot (keys_of m.slots)))
   each_end of slot m past =
       let len : length (keys_of m.slots) ≤ slot = subst (λ (n : ℕ). n ≤ slot) (sym (length-map m.slots key_of)) past in
@@ -131,3 +157,18 @@ module _ (files : Option Files) {W S : Type 0} (reads : S → Option (List FileR
         f ∙ ap (λ (ls : Keys). ls ++ left_of of (drop (slot + 1) (keys_of k.slots))) front ∙ ap (λ (ls : Keys). (take slot ks ++ x ∷ []) ++ left_of of ls) rest
             ∙ append_assoc (take slot ks) (x ∷ []) (left_of of (drop (slot + 1) ks)) ∙ ap (λ (ls : Keys). take slot ks ++ left_of of ls) (sym cons),
       )
+
+  -- slots that hold no key that is meant are passed over
+
+  pub passed_end : (of : Option Key) (slot at : ℕ) (m : Moment W S) → slot ≤ at → ((i : ℕ) → slot ≤ i → i < at → means of (key_at (keys_of m.slots) i) ≡ false) → length m.slots ≤ at → Ran files reads m (drops_each of slot (drop slot (keys_of m.slots))) m × (keys_of m.slots ≡ take slot (keys_of m.slots) ++ left_of of (drop slot (keys_of m.slots)))
+  passed_end of slot at m from none past =
+      let over = passed_over of slot at (keys_of m.slots) from none in
+      let ends = each_end of at m past in
+      (subst (λ (ds : List Deed). Ran files reads m ds m) (sym over.0) ends.0, ends.1 ∙ sym over.1)
+
+  pub passed_step : (of : Option Key) (slot at : ℕ) (m k n : Moment W S) → slot ≤ at → ((i : ℕ) → slot ≤ i → i < at → means of (key_at (keys_of m.slots) i) ≡ false) → at < length m.slots → means of (key_at (keys_of m.slots) at) ≡ true → Ran files reads m (dropped at (key_at (keys_of m.slots) at)) k → keys_of k.slots ≡ slice_set (keys_of m.slots) at None → Ran files reads k (drops_each of (at + 1) (drop (at + 1) (keys_of k.slots))) n → keys_of n.slots ≡ take (at + 1) (keys_of k.slots) ++ left_of of (drop (at + 1) (keys_of k.slots)) → Ran files reads m (drops_each of slot (drop slot (keys_of m.slots))) n × (keys_of n.slots ≡ take slot (keys_of m.slots) ++ left_of of (drop slot (keys_of m.slots)))
+  passed_step of slot at m k n from none below is r e s f =
+      let over = passed_over of slot at (keys_of m.slots) from none in
+      let went = if_meant of at m k is r e in
+      let step = each_step of at m k n below went.1 went.0 s f in
+      (subst (λ (ds : List Deed). Ran files reads m ds n) (sym over.0) step.0, step.1 ∙ sym over.1)

@@ -14,11 +14,11 @@ pub struct Held {
     pub(crate) ranged: Ranged,
 }
 
-/// Whether two keys are one.
+/// Whether two keys are one. Where they begin is compared first: most keys of one file differ there.
 pub fn are_same(a: Key, b: Key) -> bool
     ensures { result ≡ key_eq a b }
 {
-    a.file == b.file && a.at == b.at && a.len == b.len
+    a.at == b.at && a.file == b.file && a.len == b.len
 }
 
 /// Puts a range into a slot, which holds nothing.

@@ -1,6 +1,6 @@
 //! What slots hold is let go.
-ghost use Rattle.std.specs.Prelude.{◌≡◌, ◌<◌, ◌≤◌, ◌++◌, take, drop, length, None, slice_set};
-ghost use Rattle.held_ranges.specs.Deeds.{dropped, drops_each, key_at, left_of, means, meant, others};
+ghost use Rattle.std.specs.Prelude.{◌≡◌, ◌<◌, ◌≤◌, ◌++◌, ℕ, false, true, take, drop, length, None, slice_set};
+ghost use Rattle.held_ranges.specs.Deeds.{dropped, drops_each, key_at, left_of, means};
 ghost use Rattle.held_ranges.specs.Moments.{DeskHolds, IsDropped, Ran, keys_of, moment};
 ghost use Rattle.buffer_pool.specs.Pools.{IsSeatOf};
 ghost use Rattle.range_cache.specs.Caches.{pool_of};
@@ -60,27 +60,20 @@ fn is_meant(slots: &Vec<Option<Held>>, slot: usize, of: Option<Key>) -> bool
     }
 }
 
-/// Lets go of what a slot holds, if it is a key that is meant.
-fn let_go_if<W: World, S: Store<W>>(
-    desk: &mut Desk<'_, W, S>,
-    slots: &mut Vec<Option<Held>>,
-    of: Option<Key>,
-    slot: usize,
-)
-    requires holding { DeskHolds (moment desk.old slots.old.items) }
-    requires slot { slot < length slots.old.items }
-    ensures holding { DeskHolds (moment desk.new slots.new.items) }
-    ensures went { Ran W.files S.reads (moment desk.old slots.old.items) (dropped slot (meant of (key_at (keys_of slots.old.items) slot)))
-        (moment desk.new slots.new.items) }
-    ensures keys { keys_of slots.new.items ≡ slice_set (keys_of slots.old.items) slot (others of (key_at (keys_of slots.old.items) slot)) }
-    ensures store { desk.new.store.now ≡ desk.old.store.now }
-    ensures cache { desk.new.cache.now ≡ desk.old.cache.now }
-    ensures evictor { desk.new.evictor.now ≡ desk.old.evictor.now }
-    ensures count { length slots.new.items ≡ length slots.old.items }
+/// The first slot, from one on, that holds a key that is meant; where none does, the number of slots, or that one if it lies behind.
+///
+/// Most slots hold another key, or none, and a swap looks at them all: this passes over them without a call for each.
+fn next_meant(slots: &Vec<Option<Held>>, of: Option<Key>, slot: usize) -> usize
+    ensures from { slot ≤ result }
+    ensures within { slot ≤ length slots.now.items → result ≤ length slots.now.items }
+    ensures passed { (i : ℕ) → slot ≤ i → i < result → means of (key_at (keys_of slots.now.items) i) ≡ false }
+    ensures found { result < length slots.now.items → means of (key_at (keys_of slots.now.items) result) ≡ true }
 {
-    if is_meant(slots, slot, of) {
-        let_go(desk, slots, slot);
+    let mut at = slot;
+    while at < slots.len() && !is_meant(slots, at, of) {
+        at += 1;
     }
+    at
 }
 
 /// Lets go of what slots hold of a key, or of all that they hold, from a slot on.
@@ -100,8 +93,9 @@ pub(crate) fn let_go_from<W: World, S: Store<W>>(
     ensures evictor { desk.new.evictor.now ≡ desk.old.evictor.now }
     ensures count { length slots.new.items ≡ length slots.old.items }
 {
-    if slot < slots.len() {
-        let_go_if(desk, slots, of, slot);
-        let_go_from(desk, slots, of, slot + 1);
+    let next = next_meant(slots, of, slot);
+    if next < slots.len() {
+        let_go(desk, slots, next);
+        let_go_from(desk, slots, of, next + 1);
     }
 }
