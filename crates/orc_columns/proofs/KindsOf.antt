@@ -67,15 +67,19 @@ typed_rows : (kind : ℕ) (s : Spelling) (flags : List Bool) (typed : ColumnValu
 typed_rows kind Bits flags (list.Bools entries) is typed = all_rows kind (λ (b : Bool). value.Bool b) (woven flags entries.items) (λ x. is)
 typed_rows kind Bits flags (list.Ints entries) is typed = absurd typed
 typed_rows kind Bits flags (list.Texts entries) is typed = absurd typed
+typed_rows kind Bits flags (list.Chosen entries) is typed = absurd typed
 typed_rows kind (Integers version) flags (list.Bools entries) is typed = absurd typed
 typed_rows kind (Integers version) flags (list.Ints entries) is typed = all_rows kind (λ n. value.Int n) (woven flags entries.items) (λ x. is)
 typed_rows kind (Integers version) flags (list.Texts entries) is typed = absurd typed
+typed_rows kind (Integers version) flags (list.Chosen entries) is typed = absurd typed
 typed_rows kind (Texts version) flags (list.Bools entries) is typed = absurd typed
 typed_rows kind (Texts version) flags (list.Ints entries) is typed = absurd typed
 typed_rows kind (Texts version) flags (list.Texts entries) is typed = all_rows kind (λ (t : List ℕ). value.Text t) (woven flags entries) (λ x. is)
+typed_rows kind (Texts version) flags (list.Chosen entries) is typed = absurd typed
 typed_rows kind (Dictionary version) flags (list.Bools entries) is typed = absurd typed
 typed_rows kind (Dictionary version) flags (list.Ints entries) is typed = absurd typed
-typed_rows kind (Dictionary version) flags (list.Texts entries) is typed = all_rows kind (λ (t : List ℕ). value.Text t) (woven flags entries) (λ x. is)
+typed_rows kind (Dictionary version) flags (list.Texts entries) is typed = absurd typed
+typed_rows kind (Dictionary version) flags (list.Chosen entries) is typed = all_rows kind (λ (t : List ℕ). value.Text t) (woven flags entries) (λ x. is)
 
 -- the rows of a typed list are of the kind whose spelling it has
 pub rows_of_kind : (kind : ℕ) (encoding : Option ℕ) (s : Spelling) (flags : List Bool) (typed : ColumnValues) → spelling_of kind encoding ≡ Some s → IsTyped s typed → All (IsOfKind kind) (column_of flags typed)

@@ -22,9 +22,12 @@ use Rattle.orc_columns.specs.Spelling.{IntRun, int_run}
 pub filled_values : {A Z : Type 0} (kind : A → Value) (v : Vec A Z) (filled : List A) → length filled ≡ v.len → map kind (with_items v filled).items ≡ map kind filled
 filled_values {A} kind v filled len = ap (λ (l : List A). map kind l) (with_items_is v filled len)
 
+-- the items of a `Vec` of so many that was filled whole
+pub filled_items : {A Z : Type 0} (n : ℕ) (v : Vec A Z) (filled : List A) → length filled ≡ v.len → v.len ≡ n → (with_items v filled).items ≡ take n filled
+filled_items n v filled len all = with_items_is v filled len ∙ sym (take_all n filled (omega (arith, len, all)))
+
 pub filled_front : {A Z : Type 0} (kind : A → Value) (n : ℕ) (v : Vec A Z) (filled : List A) → length filled ≡ v.len → v.len ≡ n → map kind (with_items v filled).items ≡ map kind (take n filled)
-filled_front {A} kind n v filled len all =
-    filled_values kind v filled len ∙ ap (λ (l : List A). map kind l) (sym (take_all n filled (omega (arith, len, all))))
+filled_front {A} kind n v filled len all = ap (λ (l : List A). map kind l) (filled_items n v filled len all)
 
 -- values that were given, and then these
 pub given_on : {A : Type 0} (kind : A → Value) (given more : List Value) (old new : List A) → given ≡ map kind old → more ≡ map kind new → given ++ more ≡ map kind (old ++ new)

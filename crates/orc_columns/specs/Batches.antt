@@ -111,7 +111,7 @@ abbrev pub IsTyped : Spelling → ColumnValues → Type 0
 IsTyped Bits (list.Bools entries) = Unit {0}
 IsTyped (Integers version) (list.Ints entries) = Unit {0}
 IsTyped (Texts version) (list.Texts entries) = Unit {0}
-IsTyped (Dictionary version) (list.Texts entries) = Unit {0}
+IsTyped (Dictionary version) (list.Chosen entries) = Unit {0}
 IsTyped spelling entries = ⊥
 
 -- A reader's values go on with those of a typed list, and it takes nothing of PRESENT.

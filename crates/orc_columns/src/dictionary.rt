@@ -6,7 +6,7 @@ ghost use Rattle.outside.specs.Reading.{placed};
 ghost use Rattle.orc_values.specs.Texts.{running_ends};
 ghost use Rattle.orc_columns.specs.declared.fault.ColumnFault.TheVariants as fault;
 ghost use Rattle.orc_columns.specs.Column.{places_of};
-ghost use Rattle.row_texts.specs.Lookup.{chosen};
+ghost use Rattle.orc_values.specs.Chosen.{chosen, AreWithin};
 ghost use Rattle.orc_columns.specs.Entries.{IsOutOf, LengthsRead};
 ghost use Rattle.orc_values.specs.Column.{entries_in};
 ghost use Rattle.orc_columns.specs.declared.plan.ColumnPlan.{ColumnPlan};
@@ -25,22 +25,21 @@ use crate::lengths::total_of;
 use crate::plan::ColumnPlan;
 use crate::spelling::Version;
 use crate::text_bytes::read_bytes;
-use orc_values::{ColumnValues, Texts};
-use outside::{Feed, NoMemory};
-use row_flags::BATCH;
-use row_texts::{ends_of, is_any_past, push_chosen};
+use orc_values::{ChosenTexts, ColumnValues, Dictionary, Texts};
+use outside::Feed;
+use row_texts::{ends_of, is_any_past};
 use std::alloc::Global;
 
 /// Texts of a dictionary, each spelled by the number of its entry in DATA.
 #[derive(Drop)]
 pub(crate) struct DictionaryReader {
-    /// The entries.
-    pub(crate) entries: Texts,
+    /// The entries, which each batch shares.
+    pub(crate) entries: Dictionary,
     /// The numbers of entries.
     pub(crate) places: Integers,
 }
 
-/// The next texts of a dictionary, in the memory of an older batch.
+/// The next texts of a dictionary, as the numbers of their entries, in the memory of an older batch.
 pub(crate) fn next_places<F: Feed>(
     dictionary: &mut DictionaryReader,
     alloc: Global,
@@ -60,44 +59,37 @@ pub(crate) fn next_places<F: Feed>(
         (ValuesGoOn plan.dictionary_size (reader.Dictionary dictionary.old) (reader.Dictionary dictionary.new))
         (ValuesBreak plan.dictionary_size count (reader.Dictionary dictionary.old)) result }
 {
-    let mut places = [0; BATCH];
-    fill_numbers(&mut dictionary.places, feed, &mut places, count)?;
-    let (places, _) = places.split_at(count);
-    let texts = looked_up(&dictionary.entries, places, texts_memory(alloc, older))?;
-    Ok(ColumnValues::Texts(texts))
+    let mut numbers = place_memory(alloc, older);
+    numbers.resize(count, 0)?;
+    fill_numbers(&mut dictionary.places, feed, &mut numbers, count)?;
+    let texts = looked_up(&dictionary.entries, numbers)?;
+    Ok(ColumnValues::Chosen(texts))
 }
 
-/// The memory of an older batch of texts, if it is one, without its texts.
-fn texts_memory(alloc: Global, older: ColumnValues) -> Texts
-    ensures { result ≡ [] }
-{
+/// The memory of an older batch of numbers of entries, if it is one.
+fn place_memory(alloc: Global, older: ColumnValues) -> Vec<i64> {
     match older {
-        ColumnValues::Texts(texts) => {
-            let mut texts = texts;
-            texts.clear();
-            texts
-        }
-        _ => Texts::empty(alloc),
+        ColumnValues::Chosen(texts) => texts.into_parts().1,
+        _ => Vec::new(alloc),
     }
 }
 
-/// The texts of some entries, by their numbers.
+/// The texts of some entries, by their numbers, which it keeps. No entry is copied.
 ///
-/// Answers `IndexOutOfDictionary` where a number isn't below the number of entries.
-fn looked_up(entries: &Texts, places: &[i64], texts: Texts) -> Result<Texts, ColumnFault>
-    requires none { texts ≡ [] }
-    ensures below { IfOk result (λ _. All (λ place. place < length entries.now) (places_of places.now)) }
-    ensures texts { IfOk result (λ texts. texts ≡ chosen entries.now (places_of places.now)) }
-    ensures refused { IfErr result (IsOutOf entries.now places.now) }
+/// Answers `IndexOutOfDictionary` where a number isn't below the number of entries, and `NoMemory` where the dictionary has as
+/// many owners as can be counted.
+fn looked_up(entries: &Dictionary, numbers: Vec<i64>) -> Result<ChosenTexts, ColumnFault>
+    ensures below { IfOk result (λ _. AreWithin entries.now numbers.items) }
+    ensures texts { IfOk result (λ texts. texts ≡ chosen entries.now (places_of numbers.items)) }
+    ensures refused { IfErr result (IsOutOf entries.now numbers.items) }
 {
-    if is_any_past(places, entries.len()) {
+    if is_any_past(&numbers, entries.len()) {
         return Err(ColumnFault::IndexOutOfDictionary);
     }
-    let mut texts = texts;
-    if push_chosen(entries, places, &mut texts).is_err() {
-        return Err(ColumnFault::NoMemory);
+    match entries.share() {
+        Ok(shared) => Ok(ChosenTexts::new(shared, numbers)),
+        Err(_) => Err(ColumnFault::NoMemory),
     }
-    Ok(texts)
 }
 
 /// The entries of a dictionary: all its lengths are read, and then the bytes of all its texts at once.
@@ -106,7 +98,7 @@ pub(crate) fn read_entries<F: Feed>(
     plan: ColumnPlan,
     version: Version,
     feed: &mut F,
-) -> Result<Texts, ColumnFault>
+) -> Result<Dictionary, ColumnFault>
     requires differ { StreamsDiffer plan }
     requires lens { HasLengths F.rest feed.old plan }
     ensures no_read { IfErr result HoldsNoRead }
@@ -118,7 +110,8 @@ pub(crate) fn read_entries<F: Feed>(
     let ends = ends_of(alloc, &lengths)?;
     let mut bytes = Vec::new(alloc);
     read_bytes(feed, plan.dictionary, &mut bytes, total)?;
-    Ok(Texts::new(bytes, ends))
+    let entries = Dictionary::new(alloc, Texts::new(bytes, ends))?;
+    Ok(entries)
 }
 
 /// Reads the lengths of all entries, and answers how many bytes they are together.

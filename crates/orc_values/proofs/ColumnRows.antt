@@ -51,11 +51,13 @@ pub column-present : (present : List Bool) (values : ColumnValues) → entries_i
 column-present present (list.Bools values) h = rows-present (λ b. value.Bool b) (λ _. refl) present values.items h
 column-present present (list.Ints values) h = rows-present (λ n. value.Int n) (λ _. refl) present values.items h
 column-present present (list.Texts values) h = rows-present (λ text. value.Text text) (λ _. refl) present values h
+column-present present (list.Chosen values) h = rows-present (λ text. value.Text text) (λ _. refl) present values h
 
 pub null_at : (present : List Bool) (values : ColumnValues) (row : ℕ) → slice_get present row ≡ Some false → slice_get (column_of present values) row ≡ Some value.Null
 null_at present (list.Bools values) row unset = rows_null_at (λ b. value.Bool b) present values.items row unset
 null_at present (list.Ints values) row unset = rows_null_at (λ n. value.Int n) present values.items row unset
 null_at present (list.Texts values) row unset = rows_null_at (λ text. value.Text text) present values row unset
+null_at present (list.Chosen values) row unset = rows_null_at (λ text. value.Text text) present values row unset
 
 -- the flags and the list give the column
 pub column-again : (present : List Bool) (values : ColumnValues) → entries_in values ≡ present_count present → column_of (present_of (column_of present values)) values ≡ column_of present values

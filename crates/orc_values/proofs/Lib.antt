@@ -1,3 +1,4 @@
+mod Choosing
 mod ColumnRows
 mod Counts
 mod Places

@@ -22,18 +22,21 @@ abbrev pub entries_in : ColumnValues → ℕ
 entries_in (list.Bools values) = length values.items
 entries_in (list.Ints values) = length values.items
 entries_in (list.Texts values) = length values
+entries_in (list.Chosen values) = length values
 
 -- the values of a typed list
 abbrev pub values_in : ColumnValues → List Value
 values_in (list.Bools values) = map (λ b. value.Bool b) values.items
 values_in (list.Ints values) = map (λ n. value.Int n) values.items
 values_in (list.Texts values) = map (λ text. value.Text text) values
+values_in (list.Chosen values) = map (λ text. value.Text text) values
 
 -- each row's value: null where its flag isn't set, and else the next of the list
 abbrev pub column_of : List Bool → ColumnValues → RowValues
 column_of present (list.Bools values) = map (value_by (λ b. value.Bool b)) (woven present values.items)
 column_of present (list.Ints values) = map (value_by (λ n. value.Int n)) (woven present values.items)
 column_of present (list.Texts values) = map (value_by (λ text. value.Text text)) (woven present values)
+column_of present (list.Chosen values) = map (value_by (λ text. value.Text text)) (woven present values)
 
 -- whether a value isn't null
 abbrev pub is_present : Value → Bool

@@ -23,11 +23,13 @@ pub column-woven : (present : List Bool) (values : ColumnValues)
 column-woven present (list.Bools values) = woven-map (λ b. value.Bool b) present values.items
 column-woven present (list.Ints values) = woven-map (λ n. value.Int n) present values.items
 column-woven present (list.Texts values) = woven-map (λ text. value.Text text) present values
+column-woven present (list.Chosen values) = woven-map (λ text. value.Text text) present values
 
 pub length-values_in : (values : ColumnValues) → length (values_in values) ≡ entries_in values
 length-values_in (list.Bools values) = length-map values.items (λ b. value.Bool b)
 length-values_in (list.Ints values) = length-map values.items (λ n. value.Int n)
 length-values_in (list.Texts values) = length-map values (λ text. value.Text text)
+length-values_in (list.Chosen values) = length-map values (λ text. value.Text text)
 
 rows-length : {A : Type 0} (kind : A → Value) (present : List Bool) (values : List A)
     → length (map (value_by kind) (woven present values)) ≡ length present
@@ -37,3 +39,4 @@ pub length-column_of : (present : List Bool) (values : ColumnValues) → length 
 length-column_of present (list.Bools values) = rows-length (λ b. value.Bool b) present values.items
 length-column_of present (list.Ints values) = rows-length (λ n. value.Int n) present values.items
 length-column_of present (list.Texts values) = rows-length (λ text. value.Text text) present values
+length-column_of present (list.Chosen values) = rows-length (λ text. value.Text text) present values

@@ -99,6 +99,7 @@ impl Column {
             ColumnValues::Bools(values) => ValueRef::Bool(values[before]),
             ColumnValues::Ints(values) => ValueRef::Int(number_at(values, before)),
             ColumnValues::Texts(values) => ValueRef::Text(values.get(before)),
+            ColumnValues::Chosen(values) => ValueRef::Text(values.get(before)),
         }
     }
 

@@ -3,6 +3,7 @@
 ghost use Rattle.std.specs.Prelude.{◌≡◌, ◌==◌};
 ghost use Rattle.orc_values.specs.Column.{entries_in};
 
+use crate::chosen_texts::ChosenTexts;
 use crate::texts::Texts;
 
 /// The values of a column that aren't null, as one list of their type, in the order of their rows.
@@ -12,8 +13,10 @@ pub enum ColumnValues {
     Bools(Vec<bool>),
     /// Of kinds SHORT, INT and LONG.
     Ints(Vec<i64>),
-    /// Of kind STRING.
+    /// Of kind STRING, spelled one by one.
     Texts(Texts),
+    /// Of kind STRING, spelled by a dictionary.
+    Chosen(ChosenTexts),
 }
 
 impl ColumnValues {
@@ -25,6 +28,7 @@ impl ColumnValues {
             ColumnValues::Bools(values) => values.len(),
             ColumnValues::Ints(values) => values.len(),
             ColumnValues::Texts(values) => values.len(),
+            ColumnValues::Chosen(values) => values.len(),
         }
     }
 

@@ -1,3 +1,3 @@
-mod ChosenTexts
+mod Below
 mod Positive
 mod Rooms

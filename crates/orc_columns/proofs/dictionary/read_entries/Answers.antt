@@ -55,6 +55,23 @@ new-requires g c =
     let ends : c.in_ok-ends.ends.items ≡ running_ends 0 (map unsigned_abs numbers) = c.in_ok-ends.ensures.ends ∙ ap (λ (l : List ℤ). running_ends 0 (map unsigned_abs l)) c.deref.ensures.value in
     ends_within f.rest f.fed f.fault_count c.args.plan m.fed_lost m.fed_nothing m.fed_joined numbers c.args.plan.dictionary_len c.in_ok-total.total (length c.read_bytes.new.bytes.items) c.in_ok-ends.ends.items c.in_ok-total.ensures.total ends c.in_ok-read_bytes.ensures.len
 
+pub returns-in_err-entries-clause-draws : goal.returns-in_err-entries-clause-draws
+returns-in_err-entries-clause-draws g c =
+    let f = g.F.Feed in
+    let m = g.met.F.Feed in
+    let plan = c.args.plan in
+    let version = c.args.version in
+    let size = plan.dictionary_size in
+    let numbers : List ℤ = c.entry_lengths.new.lengths.items in
+    let ends : c.in_ok-ends.ends.items ≡ running_ends 0 (map unsigned_abs numbers) = c.in_ok-ends.ensures.ends ∙ ap (λ (l : List ℤ). running_ends 0 (map unsigned_abs l)) c.deref.ensures.value in
+    let p = err_from_is_err_and c.from_residual-in_err-entries.result c.from_residual-in_err-entries.ensures.1 in
+    rw (p.1, p.2) (Draws-stops f.rest f.fed f.fault_count plan m.fed_lost m.fed_nothing m.fed_joined c.args.feed.now c.read_bytes.new.feed
+    (EntriesRead version size) (EntriesRead version size) (EntriesFail version size) (EntriesFail version size) c.new.result NoMemory (λ no. no)
+    (λ b a tells goes. tt)
+    (dictionary_read f.rest f.fed f.fault_count plan m.fed_lost m.fed_nothing m.fed_joined version size plan.dictionary_len c.in_ok-total.total numbers c.in_ok-total.ensures.total
+    c.args.feed.now c.entry_lengths.new.feed c.read_bytes.new.feed (λ s tells. (c.requires.lens s tells).1) c.in_ok-total.ensures.draws
+    c.in_ok-ends.ends.items c.read_bytes.new.bytes.items c.new.result ends c.new.ensures (c.in_ok-read_bytes.ensures.dictionary plan c.requires.differ refl)))
+
 pub returns-clause-draws : goal.returns-clause-draws
 returns-clause-draws g c =
     let f = g.F.Feed in
@@ -64,4 +81,4 @@ returns-clause-draws g c =
     let ends : c.in_ok-ends.ends.items ≡ running_ends 0 (map unsigned_abs numbers) = c.in_ok-ends.ensures.ends ∙ ap (λ (l : List ℤ). running_ends 0 (map unsigned_abs l)) c.deref.ensures.value in
     dictionary_read f.rest f.fed f.fault_count plan m.fed_lost m.fed_nothing m.fed_joined c.args.version plan.dictionary_size plan.dictionary_len c.in_ok-total.total numbers c.in_ok-total.ensures.total
     c.args.feed.now c.entry_lengths.new.feed c.read_bytes.new.feed (λ s tells. (c.requires.lens s tells).1) c.in_ok-total.ensures.draws
-    c.in_ok-ends.ends.items c.read_bytes.new.bytes.items c.new.result ends c.new.ensures (c.in_ok-read_bytes.ensures.dictionary plan c.requires.differ refl)
+    c.in_ok-ends.ends.items c.read_bytes.new.bytes.items c.in_ok-entries.entries ends (c.in_ok-entries.ensures ∙ c.new.ensures) (c.in_ok-read_bytes.ensures.dictionary plan c.requires.differ refl)

@@ -1,4 +1,4 @@
-use Rattle.std.proofs.Common.{◌≡◌, ◌+◌, ◌++◌, length, take, drop, map, sum, unsigned_abs}
+use Rattle.std.proofs.Common.{◌≡◌, ◌+◌, ◌++◌, take, drop, map, sum, unsigned_abs}
 use Rattle.orc_values.specs.Texts.{running_ends}
 use Rattle.orc_values.proofs.rows.lay_ends.Given as goal
 

@@ -1,4 +1,4 @@
-use Rattle.std.proofs.Common.{◌≡◌, ◌∙◌, ◌<◌, Bool, List, length, take, ap}
+use Rattle.std.proofs.Common.{◌≡◌, ◌∙◌, Bool, List, take, ap}
 use Rattle.orc_values.specs.ColumnLaws.{length-column_of}
 use Rattle.orc_values.specs.Woven.{present_count}
 use Rattle.orc_values.proofs.ColumnRows.{place_seen}

@@ -1,4 +1,4 @@
-use Rattle.std.proofs.Common.{◌≡◌, ◌∙◌, ◌<◌, ℕ, Bool, true, false, List, length, take, slice_get, Some, ℤ, refl, sym, ap, arith, rules}
+use Rattle.std.proofs.Common.{◌≡◌, ◌∙◌, ◌<◌, ℕ, Bool, true, false, List, length, slice_get, Some, ℤ, refl, sym, ap, arith, rules}
 use Rattle.std.proofs.lemmas.Option.{slice_get_read}
 use Rattle.std.proofs.lemmas.Int.{to_z-of_z}
 use Rattle.std.specs.Int.{w64}
@@ -6,7 +6,6 @@ use Rattle.orc_values.specs.declared.value.Value.TheVariants as value
 use Rattle.orc_values.specs.declared.column_values.ColumnValues.{ColumnValues}
 use Rattle.orc_values.specs.Column.{column_of, entries_in}
 use Rattle.orc_values.specs.ColumnLaws.{length-column_of}
-use Rattle.orc_values.specs.Woven.{present_count}
 use Rattle.orc_values.proofs.ColumnRows.{null_at, set_at, set_below, place_is}
 use Rattle.orc_values.proofs.column.Column.get_behind.Goals as goal
 
@@ -68,6 +67,19 @@ get-requires c =
     let k : entries_in s.values ≡ length c.in-Texts.values = ap entries_in c.in-Texts.is in
     omega (arith, below, k)
 
+pub get-requires-in-Chosen : goal.get-requires-in-Chosen
+get-requires-in-Chosen c =
+    let s = c.self.inside in
+    let present = s.present.items in
+    let row = c.args.row in
+    let h : row < length present = rw length-column_of at (rw (← c.self.view_is) at c.requires.row) in
+    let set : slice_get present row ≡ Some true =
+    slice_get_read present (length present) row c.index.result.now refl h c.index.ensures ∙ ap (λ (b : Bool). Some b) c.if-not-index.false in
+    let before = place_is present s.values row c.args.before c.self.invariant (rw (← c.self.view_is) at c.requires.before) in
+    let below : c.args.before < entries_in s.values = omega (arith, before, set_below present row set, c.self.invariant) in
+    let k : entries_in s.values ≡ length c.in-Chosen.values = ap entries_in c.in-Chosen.is in
+    omega (arith, below, k)
+
 pub returns-in-Bools : goal.returns-in-Bools
 returns-in-Bools c =
     let s = c.self.inside in
@@ -114,3 +126,17 @@ returns-in-Texts c =
     rw (← c.self.view_is)
     (ap (λ (v : ColumnValues). slice_get (column_of present v) row) c.in-Texts.is
     ∙ set_at (λ text. value.Text text) present c.in-Texts.values row c.get.result.now set (ap (λ (n : ℕ). slice_get c.in-Texts.values n) (sym before) ∙ c.get.ensures))
+
+pub returns-in-Chosen : goal.returns-in-Chosen
+returns-in-Chosen c =
+    let s = c.self.inside in
+    let present = s.present.items in
+    let row = c.args.row in
+    let h : row < length present = rw length-column_of at (rw (← c.self.view_is) at c.requires.row) in
+    let set : slice_get present row ≡ Some true =
+    slice_get_read present (length present) row c.index.result.now refl h c.index.ensures ∙ ap (λ (b : Bool). Some b) c.if-not-index.false in
+    let before = place_is present s.values row c.args.before c.self.invariant (rw (← c.self.view_is) at c.requires.before) in
+    let below : c.args.before < entries_in s.values = omega (arith, before, set_below present row set, c.self.invariant) in
+    rw (← c.self.view_is)
+    (ap (λ (v : ColumnValues). slice_get (column_of present v) row) c.in-Chosen.is
+    ∙ set_at (λ text. value.Text text) present c.in-Chosen.values row c.get-in-Chosen.result.now set (ap (λ (n : ℕ). slice_get c.in-Chosen.values n) (sym before) ∙ c.get-in-Chosen.ensures))
