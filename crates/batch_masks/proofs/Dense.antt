@@ -112,3 +112,6 @@ column_truths column truths rows = ap numbers_in (sym rows) ∙ no_numbers (λ (
 
 pub column_texts : (column : List Value) (texts : List (List ℕ)) → column_of (present_of column) (list.Texts texts) ≡ column → numbers_in column ≡ []
 column_texts column texts rows = ap numbers_in (sym rows) ∙ no_numbers (λ (t : List ℕ). value.Text t) (λ x values. refl) (present_of column) texts
+
+pub column_chosen : (column : List Value) (texts : List (List ℕ)) → column_of (present_of column) (list.Chosen texts) ≡ column → numbers_in column ≡ []
+column_chosen column texts rows = ap numbers_in (sym rows) ∙ no_numbers (λ (t : List ℕ). value.Text t) (λ x values. refl) (present_of column) texts

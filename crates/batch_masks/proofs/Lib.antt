@@ -1,3 +1,4 @@
+mod Entries
 mod Gathering
 mod Masks
 mod Numbers

@@ -1,7 +1,8 @@
 -- Rows that pass one test more.
-use Rattle.std.proofs.Common.{◌≡◌, ◌&&◌, ℕ, zero, suc, ◌+◌, ◌<◌, ◌≤◌, Bool, true, false, List, [], ◌∷◌, length, map, get_or, set, slice_get, replicate, ⊎_elim, Option, Some, None, if◌then◌else◌, refl, sym, ◌∙◌, ap, arith}
+use Rattle.std.proofs.Common.{◌≡◌, ◌&&◌, ℕ, zero, suc, ◌+◌, ◌<◌, ◌≤◌, Bool, true, false, List, [], ◌∷◌, length, map, get_or, set, slice_get, replicate, not, ⊎_elim, Some, if◌then◌else◌, refl, sym, ◌∙◌, ap, arith}
 use Rattle.std.proofs.lemmas.List.{ext_get_or, get_or-set_same, get_or-set_other, length-map}
 use Rattle.std.proofs.lemmas.Bool.{cases_eq}
+use Rattle.std.specs.Prelude.{Decides}
 use Rattle.batch_masks.specs.Kept.{both}
 use Rattle.orc_values.specs.declared.value.Value.{Value}
 
@@ -90,3 +91,56 @@ pub slice_get-get_or : {A : Type 0} (xs : List A) (i : ℕ) (x d : A) → slice_
 slice_get-get_or [] i x d e = absurd cc
 slice_get-get_or (y ∷ xs) zero x d e = cc
 slice_get-get_or (y ∷ xs) (suc i) x d e = slice_get-get_or xs i x d e
+
+-- ---- truth values, by what is answered of each
+
+and-true : (b : Bool) → b ≡ (b && true)
+and-true true = refl
+and-true false = refl
+
+and-false : (b : Bool) → false ≡ (b && false)
+and-false true = refl
+and-false false = refl
+
+module _ (of_false of_true : Bool) where
+  pub answers-as : of_false ≡ false → of_true ≡ true → (values : List Bool) → values ≡ map (λ b. if b then of_true else of_false) values
+  answers-as f t [] = refl
+  answers-as f t (true ∷ values) = ap (λ (b : Bool). b ∷ values) (sym t) ∙ ap (λ (l : List Bool). of_true ∷ l) (answers-as f t values)
+  answers-as f t (false ∷ values) = ap (λ (b : Bool). b ∷ values) (sym f) ∙ ap (λ (l : List Bool). of_false ∷ l) (answers-as f t values)
+
+  pub answers-turned : of_false ≡ true → of_true ≡ false → (values : List Bool) → map not values ≡ map (λ b. if b then of_true else of_false) values
+  answers-turned f t [] = refl
+  answers-turned f t (true ∷ values) = ap (λ (b : Bool). b ∷ map not values) (sym t) ∙ ap (λ (l : List Bool). of_true ∷ l) (answers-turned f t values)
+  answers-turned f t (false ∷ values) = ap (λ (b : Bool). b ∷ map not values) (sym f) ∙ ap (λ (l : List Bool). of_false ∷ l) (answers-turned f t values)
+
+  pub answers-all : of_false ≡ true → of_true ≡ true → (mask values : List Bool) → length mask ≡ length values
+      → mask ≡ both mask (map (λ b. if b then of_true else of_false) values)
+  answers-all f t [] values len = refl
+  answers-all f t (p ∷ mask) [] len = absurd (omega arith)
+  answers-all f t (p ∷ mask) (true ∷ values) len =
+      ap (λ (b : Bool). b ∷ mask) (and-true p ∙ ap (λ (b : Bool). p && b) (sym t))
+      ∙ ap (λ (l : List Bool). (p && of_true) ∷ l) (answers-all f t mask values (omega arith))
+  answers-all f t (p ∷ mask) (false ∷ values) len =
+      ap (λ (b : Bool). b ∷ mask) (and-true p ∙ ap (λ (b : Bool). p && b) (sym f))
+      ∙ ap (λ (l : List Bool). (p && of_false) ∷ l) (answers-all f t mask values (omega arith))
+
+  pub answers-none : of_false ≡ false → of_true ≡ false → (mask values : List Bool) → length mask ≡ length values
+      → replicate (length mask) false ≡ both mask (map (λ b. if b then of_true else of_false) values)
+  answers-none f t [] values len = refl
+  answers-none f t (p ∷ mask) [] len = absurd (omega arith)
+  answers-none f t (p ∷ mask) (true ∷ values) len =
+      ap (λ (b : Bool). b ∷ replicate (length mask) false) (and-false p ∙ ap (λ (b : Bool). p && b) (sym t))
+      ∙ ap (λ (l : List Bool). (p && of_true) ∷ l) (answers-none f t mask values (omega arith))
+  answers-none f t (p ∷ mask) (false ∷ values) len =
+      ap (λ (b : Bool). b ∷ replicate (length mask) false) (and-false p ∙ ap (λ (b : Bool). p && b) (sym f))
+      ∙ ap (λ (l : List Bool). (p && of_false) ∷ l) (answers-none f t mask values (omega arith))
+
+-- ---- texts that are the literal
+
+-- what is decided of lists that aren't the same, and of those that are
+pub not_same : (xs ys : List ℕ) (b : Bool) → Decides b (xs ≡ ys) → (xs ≡ ys → ⊥) → false ≡ b
+not_same xs ys true decides ne = absurd (ne (decides.0 refl))
+not_same xs ys false decides ne = refl
+
+pub are_same : (xs ys : List ℕ) (b : Bool) → Decides b (xs ≡ ys) → xs ≡ ys → true ≡ b
+are_same xs ys b decides is = sym (decides.1 is)

@@ -1,6 +1,7 @@
 //! Which rows of a batch pass, and the total of their numbers: loops over typed lists.
 #![tactic(auto)]
 
+mod chosen;
 mod compares;
 mod mask;
 mod moves;

@@ -1,6 +1,7 @@
 //! Masks: a flag for each row of a batch, which one test after another unsets. A comparison looks at the values that aren't null alone,
 //! and at what they are compared with once a batch.
-ghost use Rattle.std.specs.Prelude.{◌≡◌, ◌<◌, length, map, not, false, replicate, if◌then◌else◌, get_or, pos, FitsSigned};
+ghost use Rattle.std.specs.Prelude.{◌≡◌, ◌<◌, ◌≤◌, length, map, not, false, replicate, if◌then◌else◌, get_or, slice_range, pos};
+ghost use Rattle.std.specs.Prelude.{FitsSigned};
 ghost use Rattle.std.specs.Int.{w64};
 ghost use Rattle.std.specs.Ordering.{nat_cmp, int_cmp, bool_cmp, is_eq};
 ghost use Rattle.std.specs.Cmp.Lexicographic.{slice_cmp};
@@ -10,6 +11,7 @@ ghost use Rattle.orc_values.specs.Column.{entries_in, values_in};
 ghost use Rattle.batch_masks.specs.Kept.{both};
 ghost use Rattle.batch_masks.specs.Checks.{satisfies, check_holds, holds_of};
 
+use crate::chosen::compare_chosen;
 use crate::compares::{
     Compare, IsEqual, IsGreater, IsGreaterOrEqual, IsLess, IsLessOrEqual, IsNotEqual,
 };
@@ -18,35 +20,42 @@ use fragment_plan::{Check, Op};
 use orc_values::{Column, ColumnValues, Texts, Value};
 use std::cmp::Ordering;
 
+/// Up to how many bytes a text is compared byte by byte.
+const SHORT: usize = 8;
+
 /// Lets those rows pass no more of whose value the check doesn't hold.
 pub(crate) fn narrow(mask: &mut [bool], column: &Column, check: &Check)
     requires rows { length mask.old ≡ length column.now }
     ensures { mask.new ≡ both mask.old (map (check_holds check.now) column.now) }
 {
     match check {
-        Check::IsNull => narrow_nulls(mask, column.present()),
-        Check::IsNotNull => narrow_present(mask, column.present()),
+        Check::IsNull => narrow_unset(mask, column.present()),
+        Check::IsNotNull => narrow_set(mask, column.present()),
         Check::Compare { op, literal } => narrow_compared(mask, column, *op, literal),
     }
 }
 
-/// Lets those rows pass no more whose value is null.
-pub(crate) fn narrow_present(mask: &mut [bool], present: &[bool])
-    requires { length mask.old ≡ length present.now }
-    ensures { mask.new ≡ both mask.old present.now }
+/// Lets those rows pass no more whose flag isn't set.
+///
+/// The flags are cut to the mask's length first, which is their own: so no index is tested, and sixteen rows are narrowed at once.
+fn narrow_set(mask: &mut [bool], flags: &[bool])
+    requires { length mask.old ≡ length flags.now }
+    ensures { mask.new ≡ both mask.old flags.now }
 {
-    for row in 0..present.len() {
-        mask[row] = mask[row] & present[row];
+    let (cut, _) = flags.split_at(mask.len());
+    for row in 0..mask.len() {
+        mask[row] = mask[row] & cut[row];
     }
 }
 
-/// Lets those rows pass no more whose value isn't null.
-fn narrow_nulls(mask: &mut [bool], present: &[bool])
-    requires { length mask.old ≡ length present.now }
-    ensures { mask.new ≡ both mask.old (map not present.now) }
+/// Lets those rows pass no more whose flag is set.
+fn narrow_unset(mask: &mut [bool], flags: &[bool])
+    requires { length mask.old ≡ length flags.now }
+    ensures { mask.new ≡ both mask.old (map not flags.now) }
 {
-    for row in 0..present.len() {
-        mask[row] = mask[row] & !present[row];
+    let (cut, _) = flags.split_at(mask.len());
+    for row in 0..mask.len() {
+        mask[row] = mask[row] & !cut[row];
     }
 }
 
@@ -80,6 +89,7 @@ fn narrow_values(mask: &mut [bool], values: &ColumnValues, op: Op, literal: &Val
         ColumnValues::Ints(values) => compare_ints(mask, values, op, literal),
         ColumnValues::Bools(values) => compare_bools(mask, values, op, literal),
         ColumnValues::Texts(values) => compare_texts(mask, values, op, literal),
+        ColumnValues::Chosen(values) => compare_chosen(mask, values, op, literal),
     }
 }
 
@@ -110,7 +120,7 @@ fn compare_bools(mask: &mut [bool], values: &[bool], op: Op, literal: &Value)
 }
 
 /// The same of texts.
-fn compare_texts(mask: &mut [bool], values: &Texts, op: Op, literal: &Value)
+pub(crate) fn compare_texts(mask: &mut [bool], values: &Texts, op: Op, literal: &Value)
     requires { length mask.old ≡ length values.now }
     ensures { mask.new ≡ both mask.old (holds_of (λ t. value.Text t) op literal.now values.now) }
 {
@@ -142,8 +152,9 @@ fn narrow_by<C: Compare>(mask: &mut [bool], values: &[i64], literal: i64)
     requires { length mask.old ≡ length values.now }
     ensures { mask.new ≡ both mask.old (map (λ n. C.compares n literal) values.now) }
 {
-    for place in 0..values.len() {
-        mask[place] = mask[place] & C::compares(number_at(values, place), literal);
+    let (cut, _) = values.split_at(mask.len());
+    for place in 0..mask.len() {
+        mask[place] = mask[place] & C::compares(number_at(cut, place), literal);
     }
 }
 
@@ -166,20 +177,17 @@ fn narrow_bools(mask: &mut [bool], values: &[bool], op: Op, literal: bool)
     narrow_truths(mask, values, of_false, of_true);
 }
 
+/// The same, where it is known what the operator answers of each truth value: one loop, if any, for the two answers.
 fn narrow_truths(mask: &mut [bool], values: &[bool], of_false: bool, of_true: bool)
     requires { length mask.old ≡ length values.now }
     ensures { mask.new ≡ both mask.old (map (λ b. if b then of_true else of_false) values.now) }
 {
-    for place in 0..values.len() {
-        mask[place] = mask[place] & chosen(values[place], of_false, of_true);
+    match (of_false, of_true) {
+        (false, true) => narrow_set(mask, values),
+        (true, false) => narrow_unset(mask, values),
+        (false, false) => narrow_none(mask),
+        (true, true) => {}
     }
-}
-
-/// One of two answers.
-fn chosen(truth: bool, of_false: bool, of_true: bool) -> bool
-    ensures { result ≡ if truth then of_true else of_false }
-{
-    if truth { of_true } else { of_false }
 }
 
 /// The same of texts, with a text.
@@ -196,25 +204,61 @@ fn narrow_texts(mask: &mut [bool], values: &Texts, op: Op, literal: &[u8])
     }
 }
 
-/// The same, where it is known what the operator answers of a text that is the literal, and of another.
+/// The same, where it is known what the operator answers of a text that is the literal, and of another: a loop of its own for each
+/// operator.
+///
+/// A text begins where the one before it ends, so that one end is read for each.
+#[inline(always)]
 fn narrow_same(mask: &mut [bool], values: &Texts, literal: &[u8], of_other: bool, of_same: bool)
     requires { length mask.old ≡ length values.now }
     ensures { mask.new ≡ both mask.old (map (λ t. if is_eq (slice_cmp nat_cmp t literal.now) then of_same else of_other) values.now) }
 {
-    for place in 0..values.len() {
-        let same = is_same(values.get(place), literal);
-        mask[place] = mask[place] & chosen(same, of_other, of_same);
+    let (bytes, ends) = values.parts();
+    let (cut, _) = ends.split_at(mask.len());
+    let mut start = 0;
+    for place in 0..mask.len() {
+        let end = cut[place];
+        let same = is_between(bytes, start, end, literal);
+        mask[place] = mask[place] & answer(same, of_other, of_same);
+        start = end;
     }
 }
 
-/// Whether a text is the literal. Most have another length, and then no byte is looked at.
-fn is_same(text: &[u8], literal: &[u8]) -> bool
-    ensures { result ≡ is_eq (slice_cmp nat_cmp text.now literal.now) }
+/// One of two answers.
+#[inline(always)]
+fn answer(same: bool, of_other: bool, of_same: bool) -> bool
+    ensures { result ≡ if same then of_same else of_other }
 {
-    if text.len() != literal.len() {
+    if same { of_same } else { of_other }
+}
+
+/// Whether the bytes between two places are the literal. Most texts have another length, and then no byte is looked at.
+#[inline(always)]
+fn is_between(bytes: &[u8], start: usize, end: usize, literal: &[u8]) -> bool
+    requires order { start ≤ end }
+    requires within { end ≤ length bytes.now }
+    ensures { result ≡ is_eq (slice_cmp nat_cmp (slice_range bytes.now start end) literal.now) }
+{
+    if end != start + literal.len() {
         return false;
     }
-    text.cmp(literal).is_eq()
+    is_same(&bytes[start..end], literal)
+}
+
+/// Whether a text of the literal's length is the literal: a short one is looked at byte by byte, which costs less than a call.
+fn is_same(text: &[u8], literal: &[u8]) -> bool
+    requires { length text.now ≡ length literal.now }
+    ensures { result ≡ is_eq (slice_cmp nat_cmp text.now literal.now) }
+{
+    if literal.len() > SHORT {
+        return text.cmp(literal).is_eq();
+    }
+    for (place, byte) in text.iter().enumerate() {
+        if *byte != literal[place] {
+            return false;
+        }
+    }
+    true
 }
 
 /// Lets those texts pass no more that don't stand in such an order with the literal.
@@ -228,7 +272,7 @@ fn narrow_ordered(mask: &mut [bool], values: &Texts, op: Op, literal: &[u8])
 }
 
 /// Whether a comparison came out as the operator wants.
-fn is_so(op: Op, order: Ordering) -> bool
+pub(crate) fn is_so(op: Op, order: Ordering) -> bool
     ensures { result ≡ satisfies op order }
 {
     match op {

@@ -35,6 +35,7 @@ pub fn with_kept(total: Total, given: u64, mask: &mut [bool], column: &Column) -
         }
         ColumnValues::Bools(_) => total,
         ColumnValues::Texts(_) => total,
+        ColumnValues::Chosen(_) => total,
     }
 }
 

@@ -26,6 +26,7 @@ pub fn with_all(total: Total, given: u64, column: &Column) -> Total
         ColumnValues::Ints(numbers) => with_each(total, given, numbers),
         ColumnValues::Bools(_) => total,
         ColumnValues::Texts(_) => total,
+        ColumnValues::Chosen(_) => total,
     }
 }
 

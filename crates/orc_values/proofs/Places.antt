@@ -1,26 +1,8 @@
 -- Where texts begin and end.
-use Rattle.std.proofs.Common.{◌≡◌, ◌∙◌, ℕ, zero, suc, ◌-◌, ◌<◌, ◌≤◌, List, [], ◌∷◌, ◌++◌, length, take, drop, get_or, slice_get, slice_range, Some, refl, sym, ap, arith, length-append}
+use Rattle.std.proofs.Common.{◌≡◌, ◌∙◌, ℕ, ◌-◌, ◌≤◌, List, [], ◌∷◌, ◌++◌, length, take, drop, slice_range, sym, ap, arith, length-append}
 use Rattle.std.proofs.lemmas.List.{take-append-drop, length-take-le, drop_at, take_all}
-use Rattle.orc_values.specs.Texts.{texts_from, AreEnds, start_of, last_end}
-use Rattle.orc_values.specs.TextsLaws.{texts_from-append, texts_from-front, first_le-limit}
-
-pub start_of-suc : (from : ℕ) (ends : List ℕ) (index d : ℕ) → index < length ends → start_of from ends (suc index) ≡ get_or ends index d
-start_of-suc from [] index d h = absurd (omega arith)
-start_of-suc from (end ∷ ends) zero d h = refl
-start_of-suc from (end ∷ ends) (suc index) d h = start_of-suc end ends index d (omega arith)
-
-pub text_at : (from : ℕ) (ends bytes : List ℕ) (index d : ℕ) → index < length ends →
-    slice_get (texts_from from ends bytes) index ≡ Some (slice_range bytes (start_of from ends index) (get_or ends index d))
-text_at from [] bytes index d h = absurd (omega arith)
-text_at from (end ∷ ends) bytes zero d h = refl
-text_at from (end ∷ ends) bytes (suc index) d h = text_at end ends bytes index d (omega arith)
-
--- a text ends where it begins or behind that, and within the limit
-pub text_within : (from : ℕ) (ends : List ℕ) (limit index d : ℕ) → AreEnds from ends limit → index < length ends →
-    (start_of from ends index ≤ get_or ends index d) × (get_or ends index d ≤ limit)
-text_within from [] limit index d are h = absurd (omega arith)
-text_within from (end ∷ ends) limit zero d are h = (are.0, first_le-limit end ends limit are.1)
-text_within from (end ∷ ends) limit (suc index) d are h = text_within end ends limit index d are.1 (omega arith)
+use Rattle.orc_values.specs.Texts.{texts_from, AreEnds, last_end}
+use Rattle.orc_values.specs.TextsLaws.{texts_from-append, texts_from-front}
 
 pub AreEnds-last : (from : ℕ) (ends : List ℕ) (limit : ℕ) → AreEnds from ends limit → AreEnds from ends (last_end from ends)
 AreEnds-last from [] limit are = omega arith

@@ -1,9 +1,9 @@
 -- What follows of texts that are cut by their lengths or by their ends.
-use Rattle.std.specs.Prelude.{◌≡◌, ℕ, suc, ◌+◌, ◌-◌, ◌≤◌, List, [], ◌∷◌, ◌++◌, length, take, drop, sum, slice_range}
+use Rattle.std.specs.Prelude.{◌≡◌, ℕ, zero, suc, ◌+◌, ◌-◌, ◌<◌, ◌≤◌, List, [], ◌∷◌, ◌++◌, length, take, drop, sum, get_or, slice_get, slice_range, Some}
 use Rattle.std.proofs.Common.{arith, refl, sym, ap, ◌∙◌, length-drop}
 use Rattle.std.proofs.lemmas.List.{drop-append-le, take-append-le}
 use Rattle.std.proofs.lemmas.List.Sums.{sum_by-cons}
-use Rattle.orc_values.specs.Texts.{texts_from, AreEnds, last_end, slices, running_ends}
+use Rattle.orc_values.specs.Texts.{texts_from, AreEnds, start_of, last_end, slices, running_ends}
 
 pub sum-cons : (x : ℕ) (xs : List ℕ) → sum (x ∷ xs) ≡ x + sum xs
 sum-cons x xs = sum_by-cons (λ (n : ℕ). n) x xs
@@ -46,6 +46,25 @@ first_le-limit from (end ∷ ends) limit are =
     let h : end ≤ limit = first_le-limit end ends limit are.1 in
     let k : from ≤ end = are.0 in
     omega arith
+
+-- where a text begins and ends
+pub start_of-suc : (from : ℕ) (ends : List ℕ) (index d : ℕ) → index < length ends → start_of from ends (suc index) ≡ get_or ends index d
+start_of-suc from [] index d h = absurd (omega arith)
+start_of-suc from (end ∷ ends) zero d h = refl
+start_of-suc from (end ∷ ends) (suc index) d h = start_of-suc end ends index d (omega arith)
+
+pub text_at : (from : ℕ) (ends bytes : List ℕ) (index d : ℕ) → index < length ends →
+    slice_get (texts_from from ends bytes) index ≡ Some (slice_range bytes (start_of from ends index) (get_or ends index d))
+text_at from [] bytes index d h = absurd (omega arith)
+text_at from (end ∷ ends) bytes zero d h = refl
+text_at from (end ∷ ends) bytes (suc index) d h = text_at end ends bytes index d (omega arith)
+
+-- a text ends where it begins or behind that, and within the limit
+pub text_within : (from : ℕ) (ends : List ℕ) (limit index d : ℕ) → AreEnds from ends limit → index < length ends →
+    (start_of from ends index ≤ get_or ends index d) × (get_or ends index d ≤ limit)
+text_within from [] limit index d are h = absurd (omega arith)
+text_within from (end ∷ ends) limit zero d are h = (are.0, first_le-limit end ends limit are.1)
+text_within from (end ∷ ends) limit (suc index) d are h = text_within end ends limit index d are.1 (omega arith)
 
 -- bytes behind those that the lengths need don't count
 slice_range-front : (front back : List ℕ) (from to : ℕ) → from ≤ to → to ≤ length front

@@ -73,6 +73,14 @@ impl Texts {
         part(&self.bytes, from, to)
     }
 
+    /// The bytes and the ends of the texts, lent: whoever looks at text after text finds where each begins by the one before it.
+    pub fn parts(&self) -> (&[u8], &[usize])
+        ensures ends { AreEnds 0 result.1.now (length result.0.now) }
+        ensures texts { texts_from 0 result.1.now result.0.now ≡ self.now }
+    {
+        (self.bytes.as_slice(), self.ends.as_slice())
+    }
+
     /// Adds a text behind the others, copied.
     ///
     /// Answers `NoMemory` only where memory was refused, and the texts are then as before.

@@ -1,24 +1,24 @@
-use Rattle.std.proofs.Common.{arith, false, map, Bool, if◌then◌else◌, ap, ◌∙◌, sym, ◌&&◌, get_or}
-use Rattle.std.proofs.lemmas.List.{get_or-map, length-map}
-use Rattle.batch_masks.proofs.Masks.{narrowed, narrow_done, narrow_rest}
+use Rattle.std.proofs.Common.{ap, ◌∙◌}
+use Rattle.batch_masks.specs.Kept.{both}
+use Rattle.batch_masks.proofs.Masks.{answers-as, answers-turned, answers-all, answers-none}
 use Rattle.batch_masks.proofs.narrow.narrow_truths.Goals as goal
 
-pub loop-place-preserved : goal.loop-place-preserved
-loop-place-preserved c =
-    let meets = λ (b : Bool). if b then c.args.of_true else c.args.of_false in
-    let now = c.loop-place.mask in
-    let i = c.loop-place.place in
-    let values = c.args.values.now in
-    let others = map meets values in
-    record {
-      done = narrow_done now c.args.mask.now others i _ (omega (arith, c.loop-place.auto.mask, c.requires, c.loop-place-test.true)) c.loop-place.invariant.done c.loop-place.invariant.rest
-          (ap (λ b. get_or now i false && b) (c.chosen.ensures ∙ sym (get_or-map meets values i false false c.loop-place-test.true)));
-      rest = narrow_rest now c.args.mask.now others i _ c.loop-place.invariant.rest;
-    }
+pub returns-in-false-true : goal.returns-in-false-true
+returns-in-false-true c =
+    let arm = c.in-false-true in
+    c.narrow_set.ensures ∙ ap (both c.args.mask.now) (answers-as c.args.of_false c.args.of_true arm.is-0 arm.is-1 c.args.values.now)
 
-pub returns : goal.returns
-returns c =
-    let meets = λ (b : Bool). if b then c.args.of_true else c.args.of_false in
-    let others = map meets c.args.values.now in
-    narrowed c.loop-place.mask c.args.mask.now others (c.requires ∙ sym (length-map c.args.values.now meets)) c.loop-place.auto.mask
-    (λ k lt. c.loop-place.invariant.done k (omega (arith, lt, c.requires, c.loop-place-test.false)))
+pub returns-in-true-false : goal.returns-in-true-false
+returns-in-true-false c =
+    let arm = c.in-true-false in
+    c.narrow_unset.ensures ∙ ap (both c.args.mask.now) (answers-turned c.args.of_false c.args.of_true arm.is-0 arm.is-1 c.args.values.now)
+
+pub returns-in-false-false : goal.returns-in-false-false
+returns-in-false-false c =
+    let arm = c.in-false-false in
+    c.narrow_none.ensures ∙ answers-none c.args.of_false c.args.of_true arm.is-0 arm.is-1 c.args.mask.now c.args.values.now c.requires
+
+pub returns-in-true-true : goal.returns-in-true-true
+returns-in-true-true c =
+    let arm = c.in-true-true in
+    answers-all c.args.of_false c.args.of_true arm.is-0 arm.is-1 c.args.mask.now c.args.values.now c.requires

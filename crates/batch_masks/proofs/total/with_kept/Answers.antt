@@ -21,6 +21,12 @@ returns-in-Texts-clause-total c =
     with_none c.args.total _ (ap (λ l. numbers_in (kept c.args.mask.now l)) (sym rows)
     ∙ numbers-none (λ (t : List ℕ). value.Text t) (λ x values. refl) c.args.mask.now (present_of c.args.column.now) c.in-Texts.field-0)
 
+pub returns-in-Chosen-clause-total : goal.returns-in-Chosen-clause-total
+returns-in-Chosen-clause-total c =
+    let rows = known_rows c.args.column.now c.values.result.now (list.Chosen c.in-Chosen.field-0) c.in-Chosen.is c.values.ensures.values in
+    with_none c.args.total _ (ap (λ l. numbers_in (kept c.args.mask.now l)) (sym rows)
+    ∙ numbers-none (λ (t : List ℕ). value.Text t) (λ x values. refl) c.args.mask.now (present_of c.args.column.now) c.in-Chosen.field-0)
+
 pub with_numbers_kept-requires-clause-few : goal.with_numbers_kept-requires-clause-few
 with_numbers_kept-requires-clause-few c =
     let same : entries_in c.values.result.now ≡ length c.in-Ints.numbers.items = ap entries_in c.in-Ints.is in

@@ -1,10 +1,9 @@
 use Rattle.std.proofs.Common.{◌≡◌, ◌∙◌, ◌+◌, ℤ, List, length, ap, sym, arith}
-use Rattle.orc_values.specs.declared.column_values.ColumnValues.{ColumnValues}
 use Rattle.orc_values.specs.declared.column_values.ColumnValues.TheVariants as list
 use Rattle.orc_values.specs.Column.{entries_in}
 use Rattle.batch_masks.specs.Totals.{numbers_in, with_numbers}
 use Rattle.batch_masks.proofs.Numbers.{with_none}
-use Rattle.batch_masks.proofs.Dense.{few_more, values_most, known_rows, column_numbers, column_truths, column_texts}
+use Rattle.batch_masks.proofs.Dense.{few_more, values_most, known_rows, column_numbers, column_truths, column_texts, column_chosen}
 use Rattle.batch_masks.proofs.whole.with_all.Goals as goal
 
 pub with_each-requires-clause-few : goal.with_each-requires-clause-few
@@ -36,3 +35,8 @@ pub returns-in-Texts-clause-total : goal.returns-in-Texts-clause-total
 returns-in-Texts-clause-total c =
     let rows = known_rows c.args.column.now c.values.result.now (list.Texts c.in-Texts.field-0) c.in-Texts.is c.values.ensures.values in
     with_none c.args.total (numbers_in c.args.column.now) (column_texts c.args.column.now c.in-Texts.field-0 rows)
+
+pub returns-in-Chosen-clause-total : goal.returns-in-Chosen-clause-total
+returns-in-Chosen-clause-total c =
+    let rows = known_rows c.args.column.now c.values.result.now (list.Chosen c.in-Chosen.field-0) c.in-Chosen.is c.values.ensures.values in
+    with_none c.args.total (numbers_in c.args.column.now) (column_chosen c.args.column.now c.in-Chosen.field-0 rows)

@@ -1,6 +1,6 @@
 use Rattle.std.proofs.Common.{◌≡◌, ◌-◌, ◌<◌, ◌∙◌, ℕ, suc, arith, ap, length, sym}
 use Rattle.orc_values.specs.Texts.{start_of}
-use Rattle.orc_values.proofs.Places.{start_of-suc}
+use Rattle.orc_values.specs.TextsLaws.{start_of-suc}
 use Rattle.orc_values.proofs.texts.start_of.Goals as goal
 
 pub returns : goal.returns

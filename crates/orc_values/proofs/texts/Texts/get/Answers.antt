@@ -1,7 +1,6 @@
 use Rattle.std.proofs.Common.{◌≡◌, ◌<◌, ◌∙◌, ℕ, List, length, vec_len, slice_range, Some, arith, sym, ap}
-use Rattle.orc_values.specs.TextsLaws.{length-texts_from}
+use Rattle.orc_values.specs.TextsLaws.{length-texts_from, text_at, text_within}
 use Rattle.orc_values.specs.Texts.{start_of}
-use Rattle.orc_values.proofs.Places.{text_at, text_within}
 use Rattle.orc_values.proofs.texts.Texts.get.Goals as goal
 
 pub start_of-from-requires : goal.start_of-from-requires
