@@ -1,7 +1,10 @@
 //! The typed lists behind a column.
 
 use crate::case::push_rows;
-use orc_values::{Column, ColumnValues, Texts, ValueRef, count_present, lay_ends};
+use orc_values::{
+    ChosenTexts, Column, ColumnValues, Dictionary, Texts, ValueRef, count_present, lay_ends,
+};
+use row_texts::is_any_past;
 use std::alloc::Global;
 
 /// Whether these are the rows of a column, as words.
@@ -125,4 +128,36 @@ fn texts_added(alloc: Global) -> Option<bool> {
 #[test]
 fn texts_are_added_and_let_go(rt: HostRuntime) {
     assert!(rt; texts_added(rt.alloc()) == Some(true));
+}
+
+/// Entries of a dictionary by these numbers, if each is below the number of entries, which is three.
+fn chosen_of(alloc: Global, numbers: &[i64]) -> Option<ChosenTexts> {
+    let dictionary = Dictionary::new(alloc, texts_of(alloc)?).ok()?;
+    let numbers = numbers.to_vec(alloc).ok()?;
+    if is_any_past(&numbers, dictionary.len()) {
+        return None;
+    }
+    Some(ChosenTexts::new(dictionary.share().ok()?, numbers))
+}
+
+/// Whether these are the last entry, the first and the last again, and stand as numbers.
+fn are_chosen(texts: &ChosenTexts) -> bool {
+    let (entries, numbers) = texts.parts();
+    entries.len() == 3
+        && numbers == [2i64, 0, 2].as_slice()
+        && texts.len() == 3
+        && texts.get(1) == b"/a".as_slice()
+        && texts.get(2) == b"/bc".as_slice()
+}
+
+fn texts_chosen(alloc: Global) -> Option<bool> {
+    let texts = chosen_of(alloc, &[2, 0, 2])?;
+    Some(are_chosen(&texts))
+}
+
+#[test]
+fn texts_are_chosen_by_number(rt: HostRuntime) {
+    assert!(rt; texts_chosen(rt.alloc()) == Some(true));
+    assert!(rt; chosen_of(rt.alloc(), &[2, 0, 3]).is_none());
+    assert!(rt; chosen_of(rt.alloc(), &[0, -1]).is_none());
 }
