@@ -6,6 +6,14 @@ use Rattle.std.specs.Prelude.{Decides}
 use Rattle.batch_masks.specs.Kept.{both}
 use Rattle.orc_values.specs.declared.value.Value.{Value}
 
+pub and-true : (b : Bool) → b ≡ (b && true)
+and-true true = refl
+and-true false = refl
+
+pub and-false : (b : Bool) → false ≡ (b && false)
+and-false true = refl
+and-false false = refl
+
 pub both-length : (mask others : List Bool) → length mask ≡ length others → length (both mask others) ≡ length mask
 both-length [] others len = refl
 both-length (p ∷ mask) [] len = absurd (omega arith)
@@ -41,6 +49,17 @@ module _ (now mask others : List Bool) (i : ℕ) (y : Bool) where
   pub narrow_rest : ((k : ℕ) → i ≤ k → get_or now k false ≡ get_or mask k false)
       → (k : ℕ) → i + 1 ≤ k → get_or (set now i y) k false ≡ get_or mask k false
   narrow_rest rest k h = get_or-set_other now i k y false (λ e. omega (arith, e)) ∙ rest k (omega arith)
+
+-- or stays as it was
+pub narrow_stays : (now mask others : List Bool) (i : ℕ)
+    → ((k : ℕ) → k < i → get_or now k false ≡ (get_or mask k false && get_or others k false))
+    → ((k : ℕ) → i ≤ k → get_or now k false ≡ get_or mask k false)
+    → get_or others i false ≡ true
+    → (k : ℕ) → k < i + 1 → get_or now k false ≡ (get_or mask k false && get_or others k false)
+narrow_stays now mask others i done rest passes k h = ⊎_elim
+    (λ e. rw e (rest i (omega arith) ∙ and-true (get_or mask i false) ∙ ap (λ (b : Bool). get_or mask i false && b) (sym passes)))
+    (λ ne. done k (omega (arith, ne)))
+    (cases_eq k i)
 
 pub and_assoc : (a b c : Bool) → ((a && b) && c) ≡ (a && (b && c))
 and_assoc true b c = refl
@@ -93,14 +112,6 @@ slice_get-get_or (y ∷ xs) zero x d e = cc
 slice_get-get_or (y ∷ xs) (suc i) x d e = slice_get-get_or xs i x d e
 
 -- ---- truth values, by what is answered of each
-
-and-true : (b : Bool) → b ≡ (b && true)
-and-true true = refl
-and-true false = refl
-
-and-false : (b : Bool) → false ≡ (b && false)
-and-false true = refl
-and-false false = refl
 
 module _ (of_false of_true : Bool) where
   pub answers-as : of_false ≡ false → of_true ≡ true → (values : List Bool) → values ≡ map (λ b. if b then of_true else of_false) values

@@ -218,9 +218,12 @@ fn narrow_same(mask: &mut [bool], values: &Texts, literal: &[u8], of_other: bool
     let mut start = 0;
     for place in 0..mask.len() {
         let end = cut[place];
-        let same = is_between(bytes, start, end, literal);
-        mask[place] = mask[place] & answer(same, of_other, of_same);
+        let passes = answer(is_between(bytes, start, end, literal), of_other, of_same);
         start = end;
+        if passes {
+            continue;
+        }
+        mask[place] = false;
     }
 }
 

@@ -4,7 +4,7 @@ use Rattle.std.specs.Cmp.Lexicographic.{slice_cmp}
 use Rattle.std.proofs.lemmas.List.{take_all, get_or-map, length-map}
 use Rattle.orc_values.specs.Texts.{texts_from, AreEnds, start_of}
 use Rattle.orc_values.specs.TextsLaws.{length-texts_from, start_of-suc, text_at, text_within}
-use Rattle.batch_masks.proofs.Masks.{narrowed, narrow_done, narrow_rest, slice_get-get_or}
+use Rattle.batch_masks.proofs.Masks.{narrowed, narrow_done, narrow_stays, narrow_rest, slice_get-get_or, and-false}
 use Rattle.batch_masks.proofs.narrow.narrow_same.Goals as goal
 
 -- as many ends as texts
@@ -48,8 +48,8 @@ module _ (values : List (List ℕ)) (ends bytes cut : List ℕ) (i start : ℕ) 
 pub split_at-requires : goal.split_at-requires
 split_at-requires c = omega (arith, c.requires, many c.args.values.now c.parts.result.1.now c.parts.result.0.now c.parts.ensures.texts)
 
-pub is_between-same-requires-clause-order : goal.is_between-same-requires-clause-order
-is_between-same-requires-clause-order c =
+pub is_between-requires-clause-order : goal.is_between-requires-clause-order
+is_between-requires-clause-order c =
     let ends = c.parts.result.1.now in
     let bytes = c.parts.result.0.now in
     let values = c.args.values.now in
@@ -57,14 +57,39 @@ is_between-same-requires-clause-order c =
     (stands values ends bytes c.split_at.result.0.now c.loop-place.place c.loop-place.start c.parts.ensures.texts is
     (omega (arith, c.requires, c.loop-place.auto.mask, c.loop-place-test.true)) c.loop-place.invariant.begins c.parts.ensures.ends).0
 
-pub is_between-same-requires-clause-within : goal.is_between-same-requires-clause-within
-is_between-same-requires-clause-within c =
+pub is_between-requires-clause-within : goal.is_between-requires-clause-within
+is_between-requires-clause-within c =
     let ends = c.parts.result.1.now in
     let bytes = c.parts.result.0.now in
     let values = c.args.values.now in
     let is = c.split_at.ensures.front ∙ take_all (length c.args.mask.now) ends (omega (arith, c.requires, many values ends bytes c.parts.ensures.texts)) in
     (stands values ends bytes c.split_at.result.0.now c.loop-place.place c.loop-place.start c.parts.ensures.texts is
     (omega (arith, c.requires, c.loop-place.auto.mask, c.loop-place-test.true)) c.loop-place.invariant.begins c.parts.ensures.ends).1
+
+pub loop-place-preserved-then-passes : goal.loop-place-preserved-then-passes
+loop-place-preserved-then-passes c =
+    let ends = c.parts.result.1.now in
+    let bytes = c.parts.result.0.now in
+    let values = c.args.values.now in
+    let cut = c.split_at.result.0.now in
+    let i = c.loop-place.place in
+    let start = c.loop-place.start in
+    let texts = c.parts.ensures.texts in
+    let begins = c.loop-place.invariant.begins in
+    let is = c.split_at.ensures.front ∙ take_all (length c.args.mask.now) ends (omega (arith, c.requires, many values ends bytes texts)) in
+    let lt : i < length values = omega (arith, c.requires, c.loop-place.auto.mask, c.loop-place-test.true) in
+    let none : List ℕ = [] in
+    let meets = λ (t : List ℕ). if is_eq (slice_cmp nat_cmp t c.args.literal.now) then c.args.of_same else c.args.of_other in
+    let now = c.loop-place.mask in
+    let others = map meets values in
+    let holds = c.answer-passes.ensures ∙ ap (λ (b : Bool). if b then c.args.of_same else c.args.of_other) c.is_between.ensures
+    ∙ ap meets (text_is values ends bytes cut i start texts is lt begins) in
+    record {
+      begins = next values ends bytes cut i start texts is lt begins;
+      done = narrow_stays now c.args.mask.now others i c.loop-place.invariant.done c.loop-place.invariant.rest
+          (get_or-map meets values i none false lt ∙ sym holds ∙ c.if-passes.true);
+      rest = λ k h. c.loop-place.invariant.rest k (omega (arith, h));
+    }
 
 pub loop-place-preserved : goal.loop-place-preserved
 loop-place-preserved c =
@@ -82,12 +107,13 @@ loop-place-preserved c =
     let meets = λ (t : List ℕ). if is_eq (slice_cmp nat_cmp t c.args.literal.now) then c.args.of_same else c.args.of_other in
     let now = c.loop-place.mask in
     let others = map meets values in
-    let holds = c.answer.ensures ∙ ap (λ (b : Bool). if b then c.args.of_same else c.args.of_other) c.is_between-same.ensures
+    let holds = c.answer-passes.ensures ∙ ap (λ (b : Bool). if b then c.args.of_same else c.args.of_other) c.is_between.ensures
     ∙ ap meets (text_is values ends bytes cut i start texts is lt begins) in
     record {
       begins = next values ends bytes cut i start texts is lt begins;
       done = narrow_done now c.args.mask.now others i _ (omega (arith, c.loop-place-test.true)) c.loop-place.invariant.done c.loop-place.invariant.rest
-          (ap (λ b. get_or now i false && b) (holds ∙ sym (get_or-map meets values i none false lt)));
+          (and-false (get_or now i false)
+          ∙ ap (λ b. get_or now i false && b) (sym c.if-passes.false ∙ holds ∙ sym (get_or-map meets values i none false lt)));
       rest = narrow_rest now c.args.mask.now others i _ c.loop-place.invariant.rest;
     }
 
