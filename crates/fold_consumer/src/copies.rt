@@ -39,7 +39,7 @@ fn copy_texts(alloc: Global, texts: &Texts) -> Result<Texts, NoMemory>
     Ok(copy)
 }
 
-/// A copy of a typed list.
+/// A copy of a typed list. A dictionary is shared with it.
 fn copy_values(alloc: Global, values: &ColumnValues) -> Result<ColumnValues, NoMemory>
     ensures rows { IfOk result (λ copy. entries_in copy ≡ entries_in values.now) }
     ensures values { IfOk result (λ copy. (present : List Bool) → column_of present copy ≡ column_of present values.now) }
@@ -55,6 +55,10 @@ fn copy_values(alloc: Global, values: &ColumnValues) -> Result<ColumnValues, NoM
         },
         ColumnValues::Texts(texts) => match copy_texts(alloc, texts) {
             Ok(copy) => Ok(ColumnValues::Texts(copy)),
+            Err(NoMemory) => Err(NoMemory),
+        },
+        ColumnValues::Chosen(texts) => match texts.copy(alloc) {
+            Ok(copy) => Ok(ColumnValues::Chosen(copy)),
             Err(NoMemory) => Err(NoMemory),
         },
     }

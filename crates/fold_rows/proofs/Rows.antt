@@ -8,6 +8,7 @@ use Rattle.fragment_plan.specs.declared.fragment.FoldKind.TheVariants as kind
 use Rattle.group_counts.specs.Order.{value_cmp}
 use Rattle.group_counts.specs.Tally.{plus, added, added_all}
 use Rattle.group_counts.specs.Entries.{Entries}
+use Rattle.group_counts.specs.EntryCounts.{flagged}
 use Rattle.batch_masks.specs.Kept.{kept}
 use Rattle.batch_masks.specs.KeptLaws.{kept_more}
 use Rattle.batch_masks.specs.Rows.{field, row_at, rows_of}
@@ -19,6 +20,13 @@ use Rattle.fold_rows.specs.States.{picked, column_of, once, with_rows}
 added_all-append : (es fs gs : Entries) → added_all value_cmp es (fs ++ gs) ≡ added_all value_cmp (added_all value_cmp es fs) gs
 added_all-append es [] gs = refl
 added_all-append es (f ∷ fs) gs = added_all-append (added value_cmp es f.0 f.1) fs gs
+
+-- values whose flag is set are those that pass
+pub flagged-once : (flags : List Bool) (column : List Value) → flagged flags column ≡ once (kept flags column)
+flagged-once [] column = refl
+flagged-once (p ∷ flags) [] = refl
+flagged-once (true ∷ flags) (v ∷ column) = ap (λ (es : Entries). (v, 1) ∷ es) (flagged-once flags column)
+flagged-once (false ∷ flags) (v ∷ column) = flagged-once flags column
 
 -- one row more of those that pass
 pub once_more : (start now : Entries) (flags : List Bool) (column : List Value) (i : ℕ) → length flags ≡ length column → i < length column

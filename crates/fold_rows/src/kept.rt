@@ -1,8 +1,9 @@
 //! What a batch brings to a fold, once it is known which of its rows pass.
 ghost use Rattle.std.specs.Prelude.{◌≡◌, ◌<◌, ◌+◌, ◌^◌, [], length, replicate, get_or, take, false};
 ghost use Rattle.std.specs.Prelude.{if◌then◌else◌, All, IfOk, OnOk};
-ghost use Rattle.orc_values.specs.Column.{present_of};
+ghost use Rattle.orc_values.specs.Column.{column_of, present_of};
 ghost use Rattle.orc_values.specs.Woven.{present_count};
+ghost use Rattle.orc_values.specs.declared.column_values.ColumnValues.TheVariants as list;
 ghost use Rattle.orc_values.specs.declared.value.Value.TheVariants as value;
 ghost use Rattle.batch_masks.specs.Kept.{kept};
 ghost use Rattle.batch_masks.specs.Totals.{SumOfFew};
@@ -17,7 +18,7 @@ use crate::state::State;
 use batch_masks::with_kept;
 use fragment_plan::FoldKind;
 use group_counts::{Counts, Seen};
-use orc_values::{Column, count_present};
+use orc_values::{ChosenTexts, Column, ColumnValues, count_present};
 use outside::NoMemory;
 use std::alloc::Global;
 
@@ -45,9 +46,51 @@ fn count_row<'a>(
 }
 
 /// Counts with each value more of a column's rows whose flag is set.
+fn count_kept(
+    alloc: Global,
+    counts: Counts,
+    column: &Column,
+    mask: &[bool],
+) -> Result<Counts, NoMemory>
+    requires { length mask.now ≡ length column.now }
+    ensures { IfOk result (λ new. new ≡ added_all value_cmp counts (once (kept mask.now column.now))) }
+{
+    match column.values() {
+        ColumnValues::Chosen(texts) => count_chosen(alloc, counts, column, texts, mask),
+        ColumnValues::Bools(_) => count_each(alloc, counts, column, mask),
+        ColumnValues::Ints(_) => count_each(alloc, counts, column, mask),
+        ColumnValues::Texts(_) => count_each(alloc, counts, column, mask),
+    }
+}
+
+/// The same of a column whose values are texts of a dictionary, lent beside it: each is counted by the number of its entry.
+///
+/// A dictionary that has more entries than the batch has rows would cost more than the rows, since each entry has a count.
+fn count_chosen(
+    alloc: Global,
+    counts: Counts,
+    column: &Column,
+    texts: &ChosenTexts,
+    mask: &[bool],
+) -> Result<Counts, NoMemory>
+    requires rows { length mask.now ≡ length column.now }
+    requires count { length texts.now ≡ present_count (present_of column.now) }
+    requires values { column_of (present_of column.now) (list.Chosen texts.now) ≡ column.now }
+    ensures { IfOk result (λ new. new ≡ added_all value_cmp counts (once (kept mask.now column.now))) }
+{
+    let (entries, _) = texts.parts();
+    if entries.len() > mask.len() {
+        return count_each(alloc, counts, column, mask);
+    }
+    let mut now = counts;
+    now.add_chosen(alloc, column.present(), texts, mask)?;
+    Ok(now)
+}
+
+/// The same value by value.
 ///
 /// Values that come again in the batch are counted in a table of its own, and go to the counts once.
-fn count_kept(
+fn count_each(
     alloc: Global,
     counts: Counts,
     column: &Column,

@@ -3,3 +3,4 @@ mod Joined
 mod Fitting
 mod TallyLaws
 mod Moved
+mod ByEntry

@@ -2,15 +2,20 @@
 ghost use Rattle.std.specs.Prelude.{◌≡◌, ◌==◌, [], length, OnOk};
 ghost use Rattle.orc_values.specs.Shown.{shown};
 ghost use Rattle.orc_values.specs.declared.value.Value.TheVariants as value;
+ghost use Rattle.orc_values.specs.declared.column_values.ColumnValues.TheVariants as list;
+ghost use Rattle.orc_values.specs.Column.{column_of};
+ghost use Rattle.orc_values.specs.Woven.{present_count};
 ghost use Rattle.group_counts.specs.Order.{value_cmp};
 ghost use Rattle.group_counts.specs.Tally.{added, added_all};
 ghost use Rattle.group_counts.specs.Entries.{one, renamed, by_bytes, entries_of, all_fit};
 ghost use Rattle.group_counts.specs.Slots.{counted, slot_entries};
+ghost use Rattle.group_counts.specs.EntryCounts.{entry_counts, flagged};
 
+use crate::entry_counts::count_rows;
 use crate::maps::{add_number, add_text, fits, more, numbers_fit, some_key, texts_fit};
 use crate::parts::Parts;
 use crate::seen::{Seen, Slot};
-use orc_values::ValueRef;
+use orc_values::{ChosenTexts, Texts, ValueRef};
 use outside::NoMemory;
 use std::alloc::Global;
 use std::collections::BTreeMap;
@@ -114,19 +119,60 @@ impl Counts {
         ensures { OnOk result (self.new ≡ added_all value_cmp self.old (slot_entries slots.now)) }
     {
         for slot in slots {
-            self.add_slot(alloc, slot)?;
+            self.add_counted(alloc, slot.key, slot.count)?;
         }
         Ok(())
     }
 
-    /// Counts the value of a slot as often more as it was counted there.
-    fn add_slot(&mut self, alloc: Global, slot: &Slot<'_>) -> Result<(), NoMemory>
-        ensures { OnOk result (self.new ≡ added_all value_cmp self.old (counted (shown slot.now.key) slot.now.count)) }
+    /// Counts a value so often more, and not at all where that is never.
+    fn add_counted(&mut self, alloc: Global, key: ValueRef<'_>, count: u64) -> Result<(), NoMemory>
+        ensures { OnOk result (self.new ≡ added_all value_cmp self.old (counted (shown key.entry) count)) }
     {
-        if slot.count == 0 {
+        if count == 0 {
             return Ok(());
         }
-        self.add(alloc, slot.key, slot.count)
+        self.add(alloc, key, count)
+    }
+
+    /// Counts each value of rows whose flag is set once more, where the rows that aren't null have texts of a dictionary.
+    ///
+    /// Each entry is counted by its number first, and goes to the counts once. There is a flag in `present` for each row, set where the
+    /// row has the next of the texts, and one in `mask`. Answers `NoMemory` only where memory was refused.
+    pub fn add_chosen(
+        &mut self,
+        alloc: Global,
+        present: &[bool],
+        texts: &ChosenTexts,
+        mask: &[bool],
+    ) -> Result<(), NoMemory>
+        requires rows { length mask.now ≡ length present.now }
+        requires count { length texts.now ≡ present_count present.now }
+        ensures { OnOk result (self.new
+            ≡ added_all value_cmp self.old (flagged mask.now (column_of present.now (list.Chosen texts.now)))) }
+    {
+        let (entries, numbers) = texts.parts();
+        let Ok(mut counts) = vec![in alloc; 0u64; entries.len()] else {
+            return Err(NoMemory);
+        };
+        let nulls = count_rows(&mut counts, present, numbers, mask);
+        self.add_counted(alloc, ValueRef::Null, nulls)?;
+        self.add_entries(alloc, entries, &counts)
+    }
+
+    /// Counts each entry of a dictionary as often more as its count says.
+    fn add_entries(
+        &mut self,
+        alloc: Global,
+        entries: &Texts,
+        counts: &[u64],
+    ) -> Result<(), NoMemory>
+        requires { length counts.now ≡ length entries.now }
+        ensures { OnOk result (self.new ≡ added_all value_cmp self.old (entry_counts entries.now counts.now)) }
+    {
+        for entry in 0..counts.len() {
+            self.add_counted(alloc, ValueRef::Text(entries.get(entry)), counts[entry])?;
+        }
+        Ok(())
     }
 
     /// Counts each value of other counts as often more as it stands there.

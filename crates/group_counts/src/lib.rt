@@ -2,6 +2,7 @@
 #![tactic(auto)]
 
 mod counts;
+mod entry_counts;
 pub mod laws;
 mod maps;
 mod parts;

@@ -1,10 +1,12 @@
 //! Texts that are entries of a dictionary.
-ghost use Rattle.std.specs.Prelude.{◌≡◌, ◌==◌, ◌<◌, length, get_or, slice_get, pos, Some};
+ghost use Rattle.std.specs.Prelude.{◌≡◌, ◌==◌, ◌<◌, length, get_or, slice_get, pos, Some, IfOk};
 ghost use Rattle.std.specs.Int.{w64, cast_unsigned};
 ghost use Rattle.orc_values.specs.Chosen.{chosen, places_of, AreWithin};
 
 use crate::dictionary::Dictionary;
 use crate::texts::Texts;
+use outside::NoMemory;
+use std::alloc::Global;
 use std::marker::Model;
 
 /// A list of texts, each the entry of a dictionary: its number alone stands for it.
@@ -71,6 +73,19 @@ impl ChosenTexts {
         ensures texts { chosen result.0.now (places_of result.1.now) ≡ self.now }
     {
         (self.dictionary.entries(), self.numbers.as_slice())
+    }
+
+    /// The same texts for another owner: the dictionary is shared, and the numbers are copied.
+    ///
+    /// Answers `NoMemory` only where memory was refused, or where the dictionary has as many owners as can be counted.
+    pub fn copy(&self, alloc: Global) -> Result<ChosenTexts, NoMemory>
+        ensures { IfOk result (λ copy. copy ≡ self.now) }
+    {
+        let dictionary = self.dictionary.share()?;
+        match Vec::from_slice(alloc, &self.numbers) {
+            Ok(numbers) => Ok(ChosenTexts::new(dictionary, numbers)),
+            Err(_) => Err(NoMemory),
+        }
     }
 
     /// Gives the dictionary and the numbers back that it was made from.

@@ -6,4 +6,4 @@ pub loop-slot-preserved : goal.loop-slot-preserved
 loop-slot-preserved c =
     let l = c.loop-slot in
     let within : l.slot-index < length c.args.slots.now = omega arith in
-    slots-next c.args.self.now l.self _ c.args.slots.now l.slot-index _ within l.invariant c.in_ok-add_slot.ensures
+    slots-next c.args.self.now l.self _ c.args.slots.now l.slot-index _ within l.invariant c.in_ok-add_counted.ensures

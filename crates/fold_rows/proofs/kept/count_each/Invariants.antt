@@ -5,7 +5,7 @@ use Rattle.group_counts.specs.Order.{value_cmp}
 use Rattle.group_counts.specs.Tally.{added_all}
 use Rattle.batch_masks.specs.Kept.{kept}
 use Rattle.fold_rows.specs.States.{once}
-use Rattle.fold_rows.proofs.kept.count_kept.Given as goal
+use Rattle.fold_rows.proofs.kept.count_each.Given as goal
 
 abbrev pub invariant-loop-row : goal.invariant-loop-row
 invariant-loop-row l = record {

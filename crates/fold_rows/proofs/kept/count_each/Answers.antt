@@ -6,7 +6,7 @@ use Rattle.orc_values.specs.WovenLaws.{count_more, present_count-le}
 use Rattle.group_counts.specs.Order.{value_cmp}
 use Rattle.group_counts.specs.Tally.{added_all}
 use Rattle.fold_rows.proofs.Rows.{once_more}
-use Rattle.fold_rows.proofs.kept.count_kept.Goals as goal
+use Rattle.fold_rows.proofs.kept.count_each.Goals as goal
 
 pub loop-row-preserved : goal.loop-row-preserved
 loop-row-preserved c =
