@@ -1,5 +1,5 @@
 -- A reader before the first row.
-use Rattle.std.proofs.Common.{◌≡◌, ℕ, true, false, List, [], ◌∷◌, length, map, pos, Option, Some, None, refl, sym, ◌∙◌, subst, arith}
+use Rattle.std.proofs.Common.{◌≡◌, ℕ, true, false, List, [], ◌∷◌, length, map, ℤ, pos, Vec, Global, Option, Some, None, refl, sym, ◌∙◌, subst, arith}
 use Rattle.outside.specs.Runs.{Between, Spells}
 use Rattle.outside.specs.RunLaws.{Between-start}
 use Rattle.orc_rle.specs.BitRun.{BitRun}
@@ -28,8 +28,9 @@ bits_begin size s b none = (refl, ([], nothing_read BitRun s.body s.body b.held 
 pub numbers_begin : (size : ℕ) (s : Streams) (i : IntegersOf) → i.held ≡ [] → ValuesBegin size s s (reader.Integers i)
 numbers_begin size s i none = (refl, ([], nothing_read (IntRun i.version true) s.body s.body i.held none refl, refl, (refl, refl)))
 
-pub texts_begin : (size : ℕ) (s : Streams) (i : IntegersOf) (body : Option ℕ) (left : ℕ) → i.held ≡ [] → left ≡ length s.body → ValuesBegin size s s (reader.Texts (record { lengths = i; «data» = body; left = left }))
-texts_begin size s i body left none len = (refl, ([], nothing_read (IntRun i.version false) s.lengths s.lengths i.held none refl, omega arith, refl, refl, refl))
+pub texts_begin : (size : ℕ) (s : Streams) (i : IntegersOf) (body : Option ℕ) (left : ℕ) (memory : Vec ℤ Global) → i.held ≡ [] → left ≡ length s.body
+    → ValuesBegin size s s (reader.Texts (record { lengths = i; «data» = body; left = left; memory = memory }))
+texts_begin size s i body left memory none len = (refl, ([], nothing_read (IntRun i.version false) s.lengths s.lengths i.held none refl, omega arith, refl, refl, refl))
 
 pub dictionary_begins : (size : ℕ) (b a : Streams) (i : IntegersOf) (version : Version) (texts : List (List ℕ)) → i.held ≡ [] → i.version ≡ version → EntriesRead version size b a texts → ValuesBegin size b a (reader.Dictionary (record { entries = texts; places = i }))
 dictionary_begins size b a i version texts none of_version read = (

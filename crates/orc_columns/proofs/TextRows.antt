@@ -1,6 +1,6 @@
 -- A batch of texts that are spelled one by one.
-use Rattle.std.proofs.Common.{◌≡◌, ℕ, ◌+◌, ◌-◌, ◌≤◌, Bool, false, List, [], ◌∷◌, ◌++◌, length, map, take, drop, sum, Option, Ok, Err, ℤ, pos, unsigned_abs, sym, ◌∙◌, ap, subst, arith, length-drop}
-use Rattle.std.proofs.lemmas.List.{map-append, length-map, length-take-le, drop-drop, take-append-drop}
+use Rattle.std.proofs.Common.{◌≡◌, ℕ, ◌+◌, ◌-◌, ◌≤◌, false, List, [], ◌∷◌, ◌++◌, length, map, take, drop, sum, Option, Ok, Err, Vec, Global, ℤ, pos, unsigned_abs, sym, ◌∙◌, ap, subst, arith, length-drop}
+use Rattle.std.proofs.lemmas.List.{length-map, length-take-le, drop-drop, take-append-drop}
 use Rattle.outside.specs.Feed.{Taken, Lost, taken_of}
 use Rattle.outside.specs.Runs.{Between}
 use Rattle.orc_values.specs.declared.column_values.ColumnValues.{ColumnValues}
@@ -42,13 +42,13 @@ slices_on lens more bytes start enough are =
     ∙ ap (λ (l : List (List ℕ)). slices 0 lens front ++ l) (sym next)
     ∙ sym all
 
-abbrev pub reader_of : IntegersOf → Option ℕ → ℕ → ValueReader
-reader_of lengths body left = reader.Texts (record { lengths = lengths; «data» = body; left = left })
+abbrev pub reader_of : IntegersOf → Option ℕ → ℕ → Vec ℤ Global → ValueReader
+reader_of lengths body left memory = reader.Texts (record { lengths = lengths; «data» = body; left = left; memory = memory })
 
-module _ (size n : ℕ) (old new : IntegersOf) (body : Option ℕ) (left total : ℕ) (numbers : List ℤ) (unsigned : old.signed ≡ false) where
+module _ (size n : ℕ) (old new : IntegersOf) (body : Option ℕ) (left total : ℕ) (memory kept : Vec ℤ Global) (numbers : List ℤ) (unsigned : old.signed ≡ false) where
   pub texts_go : (b m a : Streams) (bytes : List ℕ) (typed : ColumnValues) → new.version ≡ old.version → length numbers ≡ n → TotalOf numbers left total
       → values_in typed ≡ map (λ t. value.Text t) (slices 0 (map unsigned_abs numbers) bytes)
-      → LengthsGoOn old new b m numbers → BodyTaken total m a bytes → ValuesGoOn size (reader_of old body left) (reader_of new body (left - total)) b a typed
+      → LengthsGoOn old new b m numbers → BodyTaken total m a bytes → ValuesGoOn size (reader_of old body left memory) (reader_of new body (left - total) kept) b a typed
   texts_go b m a bytes typed version len total_of rows on took =
       let kind : List ℕ → Value = λ (t : List ℕ). value.Text t in
       let more : List ℕ = map unsigned_abs numbers in
@@ -79,7 +79,7 @@ module _ (size n : ℕ) (old new : IntegersOf) (body : Option ℕ) (left total :
       let kind : List ℕ → Value = λ (t : List ℕ). value.Text t in
       ap length is ∙ length-map (slices 0 lens bytes) kind ∙ length-slices 0 lens bytes
 
-  pub texts_refuse : (b : Streams) (fault : ColumnFault) → LengthsRefuse old n left b fault → ValuesBreak size n (reader_of old body left) b fault
+  pub texts_refuse : (b : Streams) (fault : ColumnFault) → LengthsRefuse old n left b fault → ValuesBreak size n (reader_of old body left memory) b fault
   texts_refuse b fault refuse start given at =
       let fails : LengthsFail old.version start.lengths (left + sum at.0) (length at.0 + n) fault = refuse start.lengths at.0 at.1 in
       let whole : LengthsFail old.version start.lengths (length start.body) (length at.0 + n) fault = subst (λ (k : ℕ). LengthsFail old.version start.lengths k (length at.0 + n) fault) at.2 fails in
@@ -87,7 +87,7 @@ module _ (size n : ℕ) (old new : IntegersOf) (body : Option ℕ) (left total :
       texts (subst (λ (k : ℕ). LengthsFail old.version start.lengths (length start.body) k fault) len whole)
 
   -- DATA has the bytes that it is said to have
-  pub never_short : (b m : Streams) (fault : ColumnFault) → TotalOf numbers left total → LengthsGoOn old new b m numbers → BodyShort total m fault → ValuesBreak size n (reader_of old body left) b fault
+  pub never_short : (b m : Streams) (fault : ColumnFault) → TotalOf numbers left total → LengthsGoOn old new b m numbers → BodyShort total m fault → ValuesBreak size n (reader_of old body left memory) b fault
   never_short b m fault total_of on short start given at =
       let body_was : length m.body ≡ length (drop (sum at.0) start.body) = ap length (on.0.1 ∙ at.3) in
       absurd (omega (arith, body_was, length-drop (sum at.0) start.body, at.2, total_of.within, short))
@@ -100,21 +100,21 @@ module _ (size n : ℕ) (old new : IntegersOf) (body : Option ℕ) (left total :
         → values_in typed ≡ map (λ t. value.Text t) (slices 0 (map unsigned_abs numbers) bytes)
         → Draws rest fed count plan (alone plan.length) first between (LengthsGoOn old new) (LengthsRefuse old n left) (Ok numbers)
         → Draws rest fed count plan (alone plan.body) between last (BodyTaken total) (BodyShort total) (Ok bytes)
-        → Draws rest fed count plan (plan.length ∷ alone plan.body) first last (ValuesGoOn size (reader_of old body left) (reader_of new body (left - total))) (ValuesBreak size n (reader_of old body left)) (Ok typed)
+        → Draws rest fed count plan (plan.length ∷ alone plan.body) first last (ValuesGoOn size (reader_of old body left memory) (reader_of new body (left - total) kept)) (ValuesBreak size n (reader_of old body left memory)) (Ok typed)
     texts_ok bytes typed version len rows one two =
         Draws-ok rest fed count plan lost nothing joined first last
-        (λ b a y. (m : Streams) × LengthsGoOn old new b m numbers × BodyTaken total m a y) (ValuesGoOn size (reader_of old body left) (reader_of new body (left - total)))
-        (λ b f. (m : Streams) × LengthsGoOn old new b m numbers × BodyShort total m f) (ValuesBreak size n (reader_of old body left)) bytes typed
+        (λ b a y. (m : Streams) × LengthsGoOn old new b m numbers × BodyTaken total m a y) (ValuesGoOn size (reader_of old body left memory) (reader_of new body (left - total) kept))
+        (λ b f. (m : Streams) × LengthsGoOn old new b m numbers × BodyShort total m f) (ValuesBreak size n (reader_of old body left memory)) bytes typed
         (λ b a tells goes. texts_go b goes.0 a bytes typed version len total_of rows goes.1 goes.2)
         (Draws-then rest fed count plan lost nothing joined first between last (LengthsGoOn old new) (BodyTaken total) (LengthsRefuse old n left) (BodyShort total) numbers (Ok bytes) one two)
 
     pub texts_fault : (after : ValueReader) (fault : ColumnFault)
         → Draws rest fed count plan (alone plan.length) first between (LengthsGoOn old new) (LengthsRefuse old n left) (Ok numbers)
         → Draws {Y = List ℕ} rest fed count plan (alone plan.body) between last (BodyTaken total) (BodyShort total) (Err fault)
-        → Draws rest fed count plan (plan.length ∷ alone plan.body) first last (ValuesGoOn size (reader_of old body left) after) (ValuesBreak size n (reader_of old body left)) (Err fault)
+        → Draws rest fed count plan (plan.length ∷ alone plan.body) first last (ValuesGoOn size (reader_of old body left memory) after) (ValuesBreak size n (reader_of old body left memory)) (Err fault)
     texts_fault after fault one two =
         Draws-fault rest fed count plan lost nothing joined first last
-        (λ b a y. (m : Streams) × LengthsGoOn old new b m numbers × BodyTaken total m a y) (ValuesGoOn size (reader_of old body left) after)
-        (λ b f. (m : Streams) × LengthsGoOn old new b m numbers × BodyShort total m f) (ValuesBreak size n (reader_of old body left)) fault
+        (λ b a y. (m : Streams) × LengthsGoOn old new b m numbers × BodyTaken total m a y) (ValuesGoOn size (reader_of old body left memory) after)
+        (λ b f. (m : Streams) × LengthsGoOn old new b m numbers × BodyShort total m f) (ValuesBreak size n (reader_of old body left memory)) fault
         (λ b f tells short. never_short b short.0 f total_of short.1 short.2)
         (Draws-then rest fed count plan lost nothing joined first between last (LengthsGoOn old new) (BodyTaken total) (LengthsRefuse old n left) (BodyShort total) numbers (Err fault) one two)

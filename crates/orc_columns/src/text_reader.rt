@@ -27,6 +27,8 @@ pub(crate) struct TextReader {
     pub(crate) data: Option<u32>,
     /// How many bytes of DATA are left.
     pub(crate) left: u64,
+    /// Memory for the lengths of a batch, kept from batch to batch.
+    pub(crate) memory: Vec<i64>,
 }
 
 /// The next texts, in the memory of an older batch.
@@ -50,11 +52,17 @@ pub(crate) fn next_texts<F: Feed>(
 {
     let (mut bytes, mut ends) = text_memory(alloc, older);
     ends.resize(count, 0)?;
-    let mut lengths = [0; BATCH];
-    let total = next_lengths(&mut texts.lengths, feed, &mut lengths, count, texts.left)?;
+    texts.memory.resize(BATCH, 0)?;
+    let total = next_lengths(
+        &mut texts.lengths,
+        feed,
+        &mut texts.memory,
+        count,
+        texts.left,
+    )?;
     read_bytes(feed, texts.data, &mut bytes, total)?;
     texts.left -= total;
-    let (lengths, _) = lengths.split_at(count);
+    let (lengths, _) = texts.memory.split_at(count);
     Ok(ColumnValues::Texts(laid_texts(lengths, bytes, ends)))
 }
 

@@ -86,6 +86,7 @@ pub(crate) fn start_values<F: Feed>(
             lengths: Integers::new(plan.length, version, false),
             data: plan.body,
             left: plan.body_len,
+            memory: Vec::new(alloc),
         })),
         Spelling::Dictionary(version) => {
             let entries = read_entries(alloc, plan, version, feed)?;

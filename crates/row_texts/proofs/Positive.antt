@@ -1,8 +1,10 @@
 -- Numbers whose highest bit isn't set.
-use Rattle.std.proofs.Common.{◌≡◌, ℕ, zero, suc, ◌+◌, ◌^◌, ◌<◌, ◌≤◌, ℤ, pos, negsuc, List, [], ◌∷◌, length, get_or, bit_or, of_z, w64, FitsSigned, refl, arith, rules}
+use Rattle.std.proofs.Common.{◌≡◌, ℕ, zero, suc, ◌+◌, ◌*◌, ◌^◌, ◌<◌, ◌≤◌, ℤ, pos, negsuc, List, [], ◌∷◌, length, get_or, map, sum, unsigned_abs, bit_or, of_z, w64, FitsSigned, refl, arith, rules}
+use Rattle.std.specs.Prelude.{All}
 use Rattle.std.specs.Int.{IsNonNegative}
 use Rattle.std.proofs.lemmas.Int.{ints}
 use Rattle.std.proofs.lemmas.Nat.{le_or_l, le_or_r}
+use Rattle.orc_values.specs.TextsLaws.{sum-cons}
 
 pub is_positive : (v : ℤ) → FitsSigned w64 v → of_z w64 v < 2 ^ 63 → IsNonNegative v
 is_positive (pos n) fits h = search rules
@@ -21,3 +23,18 @@ pub get_or-any : (xs : List ℤ) (k : ℕ) (d e : ℤ) → k < length xs → get
 get_or-any [] k d e h = absurd (omega arith)
 get_or-any (x ∷ xs) zero d e h = refl
 get_or-any (x ∷ xs) (suc k) d e h = get_or-any xs k d e (omega arith)
+
+abs_is : (v : ℤ) → FitsSigned w64 v → IsNonNegative v → unsigned_abs v ≡ of_z w64 v
+abs_is (pos n) fits h = search rules
+abs_is (negsuc n) fits h = absurd h
+
+-- lengths that aren't negative, and whose bits are below 2^32
+pub small_sum : (xs : List ℤ) (limit : ℕ) → All IsNonNegative xs → All (FitsSigned w64) xs → All (λ v. of_z w64 v ≤ limit) xs
+    → limit < 4294967296 → sum (map unsigned_abs xs) ≤ length xs * 4294967295
+small_sum [] limit positive fit within h = omega arith
+small_sum (x ∷ xs) limit positive fit within h =
+    let first : unsigned_abs x ≡ of_z w64 x = abs_is x (fit 0 x (omega arith)) (positive 0 x (omega arith)) in
+    let least : of_z w64 x ≤ limit = within 0 x (omega arith) in
+    let others : sum (map unsigned_abs xs) ≤ length xs * 4294967295 =
+    small_sum xs limit (λ k d b. positive (suc k) d (omega arith)) (λ k d b. fit (suc k) d (omega arith)) (λ k d b. within (suc k) d (omega arith)) h in
+    omega (arith, sum-cons (unsigned_abs x) (map unsigned_abs xs))

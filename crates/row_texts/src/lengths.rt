@@ -1,7 +1,7 @@
 //! Lengths of texts: how many bytes they are together, and where each text ends.
 ghost use Rattle.std.specs.Prelude.{◌≡◌, ◌+◌, ◌<◌, ◌^◌, ℤ, true, length, map, sum, unsigned_abs, All, Contains, MatchOption};
-ghost use Rattle.std.specs.Prelude.{IfOk, IsTrue, IsFalse};
-ghost use Rattle.std.specs.Int.{IsNonNegative};
+ghost use Rattle.std.specs.Prelude.{◌≤◌, FitsSigned, IfOk, IsTrue, IsFalse};
+ghost use Rattle.std.specs.Int.{w64, cast_unsigned, IsNonNegative};
 ghost use Rattle.orc_values.specs.Texts.{running_ends, slices};
 ghost use Rattle.row_texts.specs.Lookup.{IsNegative};
 
@@ -24,15 +24,62 @@ pub fn has_negative(lengths: &[i64]) -> bool
 fn are_positive(lengths: &[i64]) -> bool
     ensures { result ≡ true → All IsNonNegative lengths.now }
 {
+    bits_of(lengths) < 1 << 63
+}
+
+/// The bits that are set in any of the lengths, so that a test of all of them is one test.
+fn bits_of(lengths: &[i64]) -> u64
+    ensures within { All (λ number. cast_unsigned w64 number ≤ result) lengths.now }
+    ensures fit { All (FitsSigned w64) lengths.now }
+{
     let mut seen = 0u64;
     for length in lengths {
         seen |= length.cast_unsigned();
     }
-    seen < 1 << 63
+    seen
 }
 
 /// How much room is left behind texts of these lengths, or None where there is too little.
 pub fn room_after(lengths: &[i64], room: u64) -> Option<u64>
+    requires { All IsNonNegative lengths.now }
+    ensures { MatchOption result (room < sum (map unsigned_abs lengths.now)) (λ left. left + sum (map unsigned_abs lengths.now) ≡ room) }
+{
+    if !are_small(lengths) {
+        return room_after_each(lengths, room);
+    }
+    let total = total_of(lengths);
+    if total > room {
+        return None;
+    }
+    Some(room - total)
+}
+
+/// Whether it is seen at once that the lengths are less than 2^64 together: there are at most 2^32, and each is below 2^32.
+fn are_small(lengths: &[i64]) -> bool
+    requires { All IsNonNegative lengths.now }
+    ensures { IsTrue result → sum (map unsigned_abs lengths.now) < 2 ^ 64 }
+{
+    if lengths.len() > 1 << 32 {
+        return false;
+    }
+    bits_of(lengths) < 1 << 32
+}
+
+/// How many bytes texts of these lengths are together.
+fn total_of(lengths: &[i64]) -> u64
+    requires positive { All IsNonNegative lengths.now }
+    requires fits { sum (map unsigned_abs lengths.now) < 2 ^ 64 }
+    ensures { result ≡ sum (map unsigned_abs lengths.now) }
+{
+    let mut total = 0;
+    for length in lengths {
+        total += *length as u64;
+    }
+    total
+}
+
+/// Does what `room_after` does, length by length.
+fn room_after_each(lengths: &[i64], room: u64) -> Option<u64>
     requires { All IsNonNegative lengths.now }
     ensures { MatchOption result (room < sum (map unsigned_abs lengths.now)) (λ left. left + sum (map unsigned_abs lengths.now) ≡ room) }
 {

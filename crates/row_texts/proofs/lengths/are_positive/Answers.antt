@@ -1,19 +1,8 @@
-use Rattle.std.proofs.Common.{rules, arith, ◌<◌, pos, get_or, of_z, w64, FitsSigned}
-use Rattle.row_texts.proofs.Positive.{is_positive, seen_more, fit_more, get_or-any}
+use Rattle.std.proofs.Common.{arith, get_or}
+use Rattle.row_texts.proofs.Positive.{is_positive}
 use Rattle.row_texts.proofs.lengths.are_positive.Goals as goal
-
-pub loop-length-preserved : goal.loop-length-preserved
-loop-length-preserved c =
-    let l = c.loop-length in
-    let now : FitsSigned w64 (get_or c.args.lengths.now l.length-index (pos 0)) = search rules in
-    record {
-      seen = seen_more (λ k. of_z w64 (get_or c.args.lengths.now k (pos 0))) l.length-index l.seen c.cast_unsigned-seen.result l.invariant.seen (search rules);
-      fit = fit_more c.args.lengths.now l.length-index l.invariant.fit now;
-    }
 
 pub returns : goal.returns
 returns c = λ below k d h.
-    let l = c.loop-length in
-    let within : k < l.length-index = omega (arith, h, c.loop-length-test.false) in
-    let most = l.invariant.seen k within in
-    rw (get_or-any c.args.lengths.now k d (pos 0) h) (is_positive (get_or c.args.lengths.now k (pos 0)) (l.invariant.fit k within) (grind (arith, most, below)))
+    let most = c.bits_of.ensures.within k d h in
+    is_positive (get_or c.args.lengths.now k d) (c.bits_of.ensures.fit k d h) (grind (arith, most, below))

@@ -2,7 +2,7 @@ use Rattle.std.proofs.Common.{◌<◌, unsigned_abs, pos, arith}
 use Rattle.std.specs.Prelude.{slice_index_or}
 use Rattle.std.proofs.lemmas.Int.{to_z-of_z}
 use Rattle.row_texts.proofs.Rooms.{past_room}
-use Rattle.row_texts.proofs.lengths.room_after.Goals as goal
+use Rattle.row_texts.proofs.lengths.room_after_each.Goals as goal
 
 pub returns-in_err-left : goal.returns-in_err-left
 returns-in_err-left c =

@@ -1,6 +1,6 @@
 use Rattle.std.proofs.Common.{ℕ, ◌<◌, ◌≤◌, pos, get_or, FitsSigned}
 use Rattle.std.specs.Int.{w64, cast_unsigned}
-use Rattle.row_texts.proofs.lengths.are_positive.Given as goal
+use Rattle.row_texts.proofs.lengths.bits_of.Given as goal
 
 abbrev pub invariant-loop-length : goal.invariant-loop-length
 invariant-loop-length l = record {
