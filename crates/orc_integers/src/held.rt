@@ -1,6 +1,8 @@
 //! The values that a decoder has read and not yet given.
-ghost use Rattle.std.specs.Prelude.{◌≡◌, ◌≤◌, ◌<◌, [], ◌++◌, length, take, drop};
+ghost use Rattle.std.specs.Prelude.{◌≡◌, ◌≤◌, ◌<◌, [], ◌++◌, length, take, drop, IfOk};
 
+use outside::NoMemory;
+use std::alloc::{AllocError, Global};
 use std::marker::Model;
 
 /// The most values of a run.
@@ -9,11 +11,12 @@ pub const MOST: usize = 512;
 /// Values of a run, in order. It is seen as the list of those that were not given yet.
 ///
 /// A decoder reads a run straight into the front of `values`, and then says by `from` and `to` where its values
-/// stand.
+/// stand. The room is owned memory and not an array, since a decoder is answered by value, and each call on that way
+/// would clear the place for an array of four kilobytes.
 #[derive(Drop)]
 pub struct Held {
-    /// Room for the values of one run.
-    pub values: [i64; 512],
+    /// Room for the values of one run, `MOST` in all.
+    pub values: Vec<i64>,
     /// Where the first value stands that was not given yet.
     pub from: usize,
     /// Where the last value ends.
@@ -21,25 +24,28 @@ pub struct Held {
 }
 
 impl Model for Held {
-    ghost use Rattle.std.specs.Prelude.{◌-◌, ◌≤◌, List, ℤ, take, drop};
+    ghost use Rattle.std.specs.Prelude.{◌≡◌, ◌-◌, ◌≤◌, List, ℤ, length, take, drop};
 
     ghost Value = { List ℤ };
 
-    ghost view = { λ held. take (held.to - held.from) (drop held.from held.values) };
+    ghost view = { λ held. take (held.to - held.from) (drop held.from held.values.items) };
 
-    ghost invariant = { λ held. (held.from ≤ held.to) × (held.to ≤ 512) };
+    ghost invariant = { λ held. (held.from ≤ held.to) × (held.to ≤ 512) × (length held.values.items ≡ 512) };
 }
 
 impl Held {
-    /// No values.
-    pub fn new() -> Held
-        ensures { result ≡ [] }
+    /// No values, with room for a run; refuses only for want of memory.
+    pub fn new(alloc: Global) -> Result<Held, NoMemory>
+        ensures { IfOk result (λ held. held ≡ []) }
     {
-        Held {
-            values: [0; 512],
+        let Ok(values) = room_for_run(alloc) else {
+            return Err(NoMemory);
+        };
+        Ok(Held {
+            values,
             from: 0,
             to: 0,
-        }
+        })
     }
 
     /// Lets go of all values.
@@ -64,4 +70,19 @@ impl Held {
         self.from += count;
         count
     }
+}
+
+/// Room for the values of one run.
+///
+/// It is cleared in four parts: the C library clears two kilobytes and more by a string instruction, which costs more
+/// than short clears do.
+fn room_for_run(alloc: Global) -> Result<Vec<i64>, AllocError>
+    ensures { IfOk result (λ values. length values.items ≡ 512) }
+{
+    let mut values = Vec::with_capacity(alloc, MOST)?;
+    values.resize(MOST / 4, 0)?;
+    values.resize(MOST / 2, 0)?;
+    values.resize(MOST / 4 * 3, 0)?;
+    values.resize(MOST, 0)?;
+    Ok(values)
 }

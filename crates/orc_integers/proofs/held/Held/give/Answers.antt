@@ -7,12 +7,11 @@ pub returns-clause-parts : goal.returns-clause-parts
 returns-clause-parts c =
     let s = c.self.inside in
     let count = c.min-count.result in
-    let whole = take (s.to - s.from) (drop s.from s.values) in
-    let told = c.self.told in
-    let len : length whole ≡ s.to - s.from = omega (arith, length-take (s.to - s.from) (drop s.from s.values), length-drop s.from s.values, c.self.invariant, c.self.told) in
+    let whole = take (s.to - s.from) (drop s.from s.values.items) in
+    let len : length whole ≡ s.to - s.from = omega (arith, length-take (s.to - s.from) (drop s.from s.values.items), length-drop s.from s.values.items, c.self.invariant) in
     let fits : s.from + count ≤ s.to = omega (arith, c.min-count.ensures, len, c.self.invariant) in
     let front : length c.copy_from_slice.new.self ≡ count = omega (arith, c.copy_from_slice.ensures.len, c.split_at_mut-front.ensures.front_len) in
-    rw (take_at c.copy_from_slice.new.self c.split_at_mut-front.result.1.now count front, c.copy_from_slice.ensures.after, ← left_after s.values s.from s.to count fits, ← c.self.view_is) (sym (take-append-drop count whole))
+    rw (take_at c.copy_from_slice.new.self c.split_at_mut-front.result.1.now count front, c.copy_from_slice.ensures.after, c.deref.ensures.value, ← left_after s.values.items s.from s.to count fits, ← c.self.view_is) (sym (take-append-drop count whole))
 
 pub returns-clause-behind : goal.returns-clause-behind
 returns-clause-behind c =
