@@ -22,9 +22,9 @@ pub fn is_any_past(places: &[i64], size: usize) -> bool
     false
 }
 
-/// Whether all numbers are seen to be below a size at once: no number has the highest bit, and none has it with what the size lacks of 2^63.
+/// Whether all numbers are seen to be below a size at once: none has the highest bit, nor has it with what the size lacks of 2^63.
 ///
-/// Two lists of bits are kept, since then a number costs an instruction less.
+/// The bits of both are kept apart, which saves a move for each number.
 fn are_below(places: &[i64], size: u64) -> bool
     ensures { result ≡ true → All (λ place. place < size) (places_of places.now) }
 {
