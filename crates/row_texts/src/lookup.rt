@@ -22,7 +22,9 @@ pub fn is_any_past(places: &[i64], size: usize) -> bool
     false
 }
 
-/// Whether all numbers are seen to be below a size at once: no number has the highest bit, and none has it with what the size lacks of 2^63.
+/// Whether all numbers are seen to be below a size at once: none has the highest bit, nor has it with what the size lacks of 2^63.
+///
+/// The bits of both are kept apart, which saves a move for each number.
 fn are_below(places: &[i64], size: u64) -> bool
     ensures { result ≡ true → All (λ place. place < size) (places_of places.now) }
 {
@@ -30,16 +32,11 @@ fn are_below(places: &[i64], size: u64) -> bool
         return false;
     };
     let mut seen = 0;
+    let mut moved = 0;
     for place in places {
-        seen |= past_bit(place.cast_unsigned(), lack);
+        let number = place.cast_unsigned();
+        seen |= number;
+        moved |= number.wrapping_add(lack);
     }
-    seen < 1 << 63
-}
-
-/// The highest bit is set where the number and `lack` together come to 2^63 or more.
-fn past_bit(number: u64, lack: u64) -> u64
-    requires { lack ≤ 2 ^ 63 }
-    ensures { result < 2 ^ 63 → number + lack < 2 ^ 63 }
-{
-    number | number.wrapping_add(lack)
+    (seen | moved) < 1 << 63
 }
