@@ -43,14 +43,14 @@ fn compare_entries(mask: &mut [bool], entries: &Texts, numbers: &[i64], op: Op, 
 /// Lets those values pass no more whose entry's flag isn't set.
 ///
 /// A number is below 1,024, so it is its own remainder, and no index is tested.
-fn narrow_chosen(mask: &mut [bool], numbers: &[i64], flags: &[bool; 1024])
+fn narrow_chosen(mask: &mut [bool], numbers: &[i64], flags: &[bool; FEW])
     requires rows { length mask.old ≡ length numbers.now }
     requires within { All (λ place. place < 1024) (places_of numbers.now) }
     ensures { mask.new ≡ both mask.old (map (λ place. get_or flags.now place false) (places_of numbers.now)) }
 {
     let (cut, _) = numbers.split_at(mask.len());
     for row in 0..mask.len() {
-        mask[row] = mask[row] & flags[entry_at(cut, row) % 1024];
+        mask[row] = mask[row] & flags[entry_at(cut, row) % FEW];
     }
 }
 

@@ -12,10 +12,12 @@ pub(crate) fn gather(mask: &mut [bool], present: &[bool], count: usize)
     if count == present.len() {
         return;
     }
+    // The flags are cut to the mask's length, which is their own, so that one index alone is tested.
+    let (cut, _) = present.split_at(mask.len());
     let mut used = 0;
-    for row in 0..present.len() {
+    for row in 0..mask.len() {
         mask[used] = mask[row];
-        used += usize::from(present[row]);
+        used += usize::from(cut[row]);
     }
 }
 
@@ -29,11 +31,12 @@ pub(crate) fn scatter(mask: &mut [bool], present: &[bool], count: usize)
         return;
     }
     // From the last row on, a flag goes to a row at or behind its place, so none that is still to be moved is lost.
+    let (cut, _) = present.split_at(mask.len());
     let mut from = count;
-    let mut row = present.len();
+    let mut row = mask.len();
     while row > 0 {
         row -= 1;
-        from -= usize::from(present[row]);
-        mask[row] = mask[from] & present[row];
+        from -= usize::from(cut[row]);
+        mask[row] = mask[from] & cut[row];
     }
 }

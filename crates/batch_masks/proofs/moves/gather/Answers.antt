@@ -1,4 +1,4 @@
-use Rattle.std.proofs.Common.{◌≡◌, ◌∙◌, ◌+◌, false, get_or, if◌then◌else◌, length, take, sym, arith}
+use Rattle.std.proofs.Common.{◌≡◌, ◌∙◌, ◌+◌, ◌<◌, List, Bool, ap, false, get_or, if◌then◌else◌, length, take, sym, arith}
 use Rattle.std.proofs.lemmas.List.{take_all}
 use Rattle.orc_values.specs.Woven.{present_count}
 use Rattle.orc_values.specs.WovenLaws.{count_more}
@@ -17,9 +17,11 @@ loop-row-preserved c =
     let l = c.loop-row in
     let present = c.args.present.now in
     let row = l.row in
-    let h = c.loop-row-test.true in
+    let h : row < length present = omega (arith, c.requires.rows, l.auto.mask, c.loop-row-test.true) in
     let more = count_more present row h in
-    let one : c.from-used.result ≡ (if get_or present row false then 1 else 0) = grind (arith, c.from-used.ensures) in
+    let cut = c.split_at.ensures.front ∙ take_all (length c.args.mask.now) present (omega (arith, c.requires.rows)) in
+    let flag : get_or c.split_at.result.0.now row false ≡ get_or present row false = ap (λ (fs : List Bool). get_or fs row false) cut in
+    let one : c.from-used.result ≡ (if get_or present row false then 1 else 0) = grind (arith, c.from-used.ensures, flag) in
     let counted : l.used + c.from-used.result ≡ present_count (take (row + 1) present) = omega (arith, more, one, l.invariant.counted) in
     let next : l.used + c.from-used.result ≡ l.used + (if get_or present row false then 1 else 0) = omega (arith, one) in
     record {
