@@ -1,9 +1,10 @@
 //! Batches as they stand in the tables of tests.
-ghost use Rattle.std.specs.Prelude.{◌≡◌, true, length, All};
+ghost use Rattle.std.specs.Prelude.{◌≡◌, ◌<◌, true, length, All};
+ghost use Rattle.orc_values.specs.Chosen.{places_of};
 
 use fragment_folds::Fold;
 use fragment_plan::FoldKind;
-use orc_values::{Column, ColumnValues, Texts, count_present};
+use orc_values::{ChosenTexts, Column, ColumnValues, Dictionary, Texts, count_present, entry_at};
 use std::alloc::Global;
 
 /// A column of these values, which stand in the rows of a text other than `_`.
@@ -23,14 +24,18 @@ fn present_of(alloc: Global, text: &str) -> Option<Vec<bool>> {
     Some(present)
 }
 
-fn ints(alloc: Global, text: &str) -> Option<ColumnValues> {
-    let mut entries = Vec::new(alloc);
+fn numbers_of(alloc: Global, text: &str) -> Option<Vec<i64>> {
+    let mut numbers = Vec::new(alloc);
     for value in text.split(',') {
         if value != "_" {
-            entries.push(value.parse::<i64>().unwrap_or(0)).ok()?;
+            numbers.push(value.parse::<i64>().unwrap_or(0)).ok()?;
         }
     }
-    Some(ColumnValues::Ints(entries))
+    Some(numbers)
+}
+
+fn ints(alloc: Global, text: &str) -> Option<ColumnValues> {
+    Some(ColumnValues::Ints(numbers_of(alloc, text)?))
 }
 
 fn bools(alloc: Global, text: &str) -> Option<ColumnValues> {
@@ -43,23 +48,55 @@ fn bools(alloc: Global, text: &str) -> Option<ColumnValues> {
     Some(ColumnValues::Bools(entries))
 }
 
-fn texts(alloc: Global, text: &str) -> Option<ColumnValues> {
-    let mut entries = Texts::empty(alloc);
-    for value in text.split(',') {
+/// The texts of these values, which are parted so.
+fn texts_of(alloc: Global, text: &str, parted: char) -> Option<Texts> {
+    let mut texts = Texts::empty(alloc);
+    for value in text.split(parted) {
         if value != "_" {
-            entries.push(value.as_bytes()).ok()?;
+            texts.push(value.as_bytes()).ok()?;
         }
     }
-    Some(ColumnValues::Texts(entries))
+    Some(texts)
 }
 
-/// The column of a text: a kind and its values parted by commas, `_` where there is none.
+/// Texts by the numbers of a dictionary's entries.
+fn chosen(alloc: Global, entries: &str, numbers: &str) -> Option<ColumnValues> {
+    let entries = Dictionary::new(alloc, texts_of(alloc, entries, '+')?).ok()?;
+    let numbers = numbers_of(alloc, numbers)?;
+    if !are_within(&numbers, entries.len()) {
+        return None;
+    }
+    Some(ColumnValues::Chosen(ChosenTexts::new(entries, numbers)))
+}
+
+/// Whether each number is that of one of so many entries.
+fn are_within(numbers: &[i64], entries: usize) -> bool
+    ensures { result ≡ true → All (λ place. place < entries) (places_of numbers.now) }
+{
+    for place in 0..numbers.len() {
+        if entry_at(numbers, place) >= entries {
+            return false;
+        }
+    }
+    true
+}
+
+/// The column of a text: a kind and its values parted by commas, `_` where there is none. In front of the numbers of a dictionary's entries
+/// stand the entries, parted by `+`, and a colon.
 fn column_of(alloc: Global, text: &str) -> Option<Column> {
     let (kind, values) = text.split_at_checked(1)?;
     match kind {
         "i" => column(alloc, values, ints(alloc, values)?),
         "b" => column(alloc, values, bools(alloc, values)?),
-        "t" => column(alloc, values, texts(alloc, values)?),
+        "t" => column(
+            alloc,
+            values,
+            ColumnValues::Texts(texts_of(alloc, values, ',')?),
+        ),
+        "d" => {
+            let (entries, numbers) = values.split_once(':')?;
+            column(alloc, numbers, chosen(alloc, entries, numbers)?)
+        }
         _ => None,
     }
 }

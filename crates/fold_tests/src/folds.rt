@@ -7,7 +7,7 @@ use outside::MemorySink;
 use std::alloc::Global;
 
 /// A plan, the batches of its scans and what is printed of its last fragment. Lines and batches are parted by `|`, and scans by `/`.
-const FOLDS: [(&str, &str, &str); 20] = [
+const FOLDS: [(&str, &str, &str); 25] = [
     ("s sum x from t", "i1,2,_|i3", "s sum 6\n"),
     ("s sum x from t", "i_,_", "s sum null\n"),
     (
@@ -72,6 +72,31 @@ const FOLDS: [(&str, &str, &str); 20] = [
     ),
     ("g group x from t", "i_", "g group 1\nnull\t1\n"),
     ("r rows x from t", "i_,1,2,3", "r rows 4\nnull\n1\n2\n3\n"),
+    (
+        "g group x from t",
+        "da+b+c:1,0,1|dc+b:1,1",
+        "g group 2\n\"a\"\t1\n\"b\"\t4\n",
+    ),
+    (
+        "g group x from t",
+        "da+b:1,_,1,_,0",
+        "g group 3\nnull\t2\n\"a\"\t1\n\"b\"\t2\n",
+    ),
+    (
+        "g group x from t where y = true",
+        "da+b+a:0,2,1,_,_,2;b1,1,0,0,1,1",
+        "g group 2\nnull\t1\n\"a\"\t3\n",
+    ),
+    (
+        "g group x from t where y = true",
+        "da+b+a:2,1,0;b1,0,1",
+        "g group 1\n\"a\"\t2\n",
+    ),
+    (
+        "g group x from t",
+        "da+b+c:2,_",
+        "g group 2\nnull\t1\n\"c\"\t1\n",
+    ),
 ];
 
 const MERGES: [(&str, &str, &str); 6] = [
