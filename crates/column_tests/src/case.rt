@@ -104,7 +104,7 @@ fn plan_of(case: &Case<'_>) -> ColumnPlan
 
 /// The first fault of the case's column as a word, or no word.
 pub fn judged(alloc: Global, case: &Case<'_>, feed: &mut CaseFeed<'_>) -> Option<String> {
-    match first_fault(plan_of(case), feed, number(case, 3)) {
+    match first_fault(alloc, plan_of(case), feed, number(case, 3)) {
         Ok(None) => Some(String::new(alloc)),
         Ok(Some(fault)) => format!(in alloc; "{fault:?}").ok(),
         Err(_) => None,

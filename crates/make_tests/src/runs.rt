@@ -117,7 +117,8 @@ fn two_is_written(alloc: Global, row: &Row) -> Option<bool> {
 fn one_is_read(alloc: Global, row: &Row) -> Option<bool> {
     let mut feed = feed_of(alloc, row)?;
     let mut values = vec![in alloc; 1i64; row.values.len()].ok()?;
-    let read = IntRuns1::new(0, row.signed).fill(&mut feed, &mut values);
+    let mut runs = IntRuns1::new(alloc, 0, row.signed).ok()?;
+    let read = runs.fill(&mut feed, &mut values);
     Some(read.is_ok() && values.as_slice() == row.values)
 }
 
@@ -125,7 +126,8 @@ fn one_is_read(alloc: Global, row: &Row) -> Option<bool> {
 fn two_is_read(alloc: Global, row: &Row) -> Option<bool> {
     let mut feed = feed_of(alloc, row)?;
     let mut values = vec![in alloc; 1i64; row.values.len()].ok()?;
-    let read = IntRuns2::new(1, row.signed).fill(&mut feed, &mut values);
+    let mut runs = IntRuns2::new(alloc, 1, row.signed).ok()?;
+    let read = runs.fill(&mut feed, &mut values);
     Some(read.is_ok() && values.as_slice() == row.values)
 }
 

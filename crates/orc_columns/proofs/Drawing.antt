@@ -109,6 +109,10 @@ module _ {F : Type 0} (rest : F → ℕ → Option (List ℕ)) (fed : F → List
       told = faults;
     }
 
+    -- nothing was done for want of memory
+    pub Draws-no_memory : {Y : Type 0} {turns : List (Option ℕ)} (feed : F) (Goes : Streams → Streams → Y → Type 0) (Faults : Streams → ColumnFault → Type 0) → Draws rest fed count plan turns feed feed Goes Faults (Err NoMemory)
+    Draws-no_memory feed Goes Faults = Draws-refused feed Goes Faults NoMemory (λ no. no) (λ s tells. tt)
+
     Said-then : {X Y : Type 0} (between last : F) (Goes : Streams → Streams → X → Type 0) (More : Streams → Streams → Y → Type 0) (Breaks' : Streams → ColumnFault → Type 0) (before : Streams) (x : X) (answer : Result Y ColumnFault)
         → (m : Streams) × Tells rest between plan m × Goes before m x → ((s : Streams) → Tells rest between plan s → Said rest fed count plan More Breaks' s last answer)
         → Said rest fed count plan (λ b a y. (m : Streams) × Goes b m x × More m a y) (λ b f. (m : Streams) × Goes b m x × Breaks' m f) before last answer

@@ -106,7 +106,7 @@ pub(crate) fn read_entries<F: Feed>(
         (EntriesRead version plan.dictionary_size) (EntriesFail version plan.dictionary_size) result }
 {
     let mut lengths = Vec::new(alloc);
-    let total = entry_lengths(plan, version, feed, &mut lengths)?;
+    let total = entry_lengths(alloc, plan, version, feed, &mut lengths)?;
     let ends = ends_of(alloc, &lengths)?;
     let mut bytes = Vec::new(alloc);
     read_bytes(feed, plan.dictionary, &mut bytes, total)?;
@@ -116,6 +116,7 @@ pub(crate) fn read_entries<F: Feed>(
 
 /// Reads the lengths of all entries, and answers how many bytes they are together.
 fn entry_lengths<F: Feed>(
+    alloc: Global,
     plan: ColumnPlan,
     version: Version,
     feed: &mut F,
@@ -129,7 +130,7 @@ fn entry_lengths<F: Feed>(
     ensures draws { Draws F.rest F.fed F.fault_count plan (alone plan.length) feed.old feed.new
         (LengthsRead version plan.dictionary_size) (EntriesFail version plan.dictionary_size) (placed lengths.new.items result) }
 {
-    let mut integers = Integers::new(plan.length, version, false);
+    let mut integers = Integers::new(alloc, plan.length, version, false)?;
     push_all_lengths(&mut integers, feed, lengths, plan.dictionary_size)?;
     total_of(lengths, plan.dictionary_len)
 }

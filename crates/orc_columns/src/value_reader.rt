@@ -79,21 +79,23 @@ pub(crate) fn start_values<F: Feed>(
 {
     match spelling {
         Spelling::Bits => Ok(ValueReader::Bits(BitStream::new(plan.body))),
-        Spelling::Integers(version) => Ok(ValueReader::Integers(Integers::new(
-            plan.body, version, true,
-        ))),
-        Spelling::Texts(version) => Ok(ValueReader::Texts(TextReader {
-            lengths: Integers::new(plan.length, version, false),
-            data: plan.body,
-            left: plan.body_len,
-            memory: Vec::new(alloc),
-        })),
+        Spelling::Integers(version) => {
+            let integers = Integers::new(alloc, plan.body, version, true)?;
+            Ok(ValueReader::Integers(integers))
+        }
+        Spelling::Texts(version) => {
+            let lengths = Integers::new(alloc, plan.length, version, false)?;
+            Ok(ValueReader::Texts(TextReader {
+                lengths,
+                data: plan.body,
+                left: plan.body_len,
+                memory: Vec::new(alloc),
+            }))
+        }
         Spelling::Dictionary(version) => {
             let entries = read_entries(alloc, plan, version, feed)?;
-            Ok(ValueReader::Dictionary(DictionaryReader {
-                entries,
-                places: Integers::new(plan.body, version, false),
-            }))
+            let places = Integers::new(alloc, plan.body, version, false)?;
+            Ok(ValueReader::Dictionary(DictionaryReader { entries, places }))
         }
     }
 }

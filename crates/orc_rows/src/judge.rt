@@ -40,7 +40,7 @@ pub fn judge_column<W: World, S: StreamReader<W>>(
     ensures judges { JudgesOne S.did S.Feed.fault_count W.files file index layout rows reader.old reader.new result }
 {
     open_column(alloc, reader, file, index, layout)?;
-    match first_fault(layout.plan(index), reader, rows) {
+    match first_fault(alloc, layout.plan(index), reader, rows) {
         Ok(None) => Ok(None),
         Ok(Some(fault)) => of_content(fault),
         Err(ColumnFault::Read(failed)) => Err(OpenFault::Read(failed)),
