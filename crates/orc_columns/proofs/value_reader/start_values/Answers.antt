@@ -46,7 +46,7 @@ returns-in_ok-lengths-in-Texts-clause-draws g c =
     let m = g.met.F.Feed in
     let size = c.args.plan.dictionary_size in
     Draws-done f.rest f.fed f.fault_count c.args.plan m.fed_lost m.fed_nothing m.fed_joined c.args.feed.now (ValuesBegin size) (ValuesFailAtStart size c.args.spelling) _
-    (λ s tells. texts_begin size s c.in_ok-lengths-in-Texts.lengths c.args.plan.body c.args.plan.body_len c.new-in-Texts.result (ap (λ (i : IntegersOf). i.held) c.in_ok-lengths-in-Texts.ensures) (c.requires.lens s tells).0)
+    (λ s tells. texts_begin size s c.in_ok-lengths-in-Texts.lengths c.args.plan.body c.args.plan.body_len c.new-in-Texts-2.result (ap (λ (i : IntegersOf). i.held) c.in_ok-lengths-in-Texts.ensures) (c.requires.lens s tells).0)
 
 pub returns-in_err-entries-in-Dictionary-clause-draws : goal.returns-in_err-entries-in-Dictionary-clause-draws
 returns-in_err-entries-in-Dictionary-clause-draws g c =
