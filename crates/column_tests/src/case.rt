@@ -2,7 +2,9 @@
 ghost use Rattle.std.specs.Prelude.{◌≡◌, ℕ, Some};
 
 use crate::case_feed::CaseFeed;
-use orc_columns::{Column, ColumnFault, ColumnPlan, ColumnReader, ValueRef, first_fault};
+use orc_columns::{
+    Column, ColumnFault, ColumnPlan, ColumnReader, ColumnRooms, ValueRef, first_fault,
+};
 use std::alloc::Global;
 
 /// A column of a stripe: its kind, its encoding, the size of its dictionary and its rows; whether it has a PRESENT stream; its streams
@@ -104,7 +106,8 @@ fn plan_of(case: &Case<'_>) -> ColumnPlan
 
 /// The first fault of the case's column as a word, or no word.
 pub fn judged(alloc: Global, case: &Case<'_>, feed: &mut CaseFeed<'_>) -> Option<String> {
-    match first_fault(alloc, plan_of(case), feed, number(case, 3)) {
+    let rooms = ColumnRooms::new(alloc).ok()?;
+    match first_fault(plan_of(case), feed, number(case, 3), rooms) {
         Ok(None) => Some(String::new(alloc)),
         Ok(Some(fault)) => format!(in alloc; "{fault:?}").ok(),
         Err(_) => None,

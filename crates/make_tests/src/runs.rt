@@ -1,5 +1,6 @@
 //! Streams of runs.
 
+use orc_integers::RunRoom;
 use orc_rle::{Bits, ByteRuns, IntRuns1};
 use orc_rle2::IntRuns2;
 use outside::SliceFeed;
@@ -117,7 +118,7 @@ fn two_is_written(alloc: Global, row: &Row) -> Option<bool> {
 fn one_is_read(alloc: Global, row: &Row) -> Option<bool> {
     let mut feed = feed_of(alloc, row)?;
     let mut values = vec![in alloc; 1i64; row.values.len()].ok()?;
-    let mut runs = IntRuns1::new(alloc, 0, row.signed).ok()?;
+    let mut runs = IntRuns1::new(RunRoom::new(alloc).ok()?, 0, row.signed);
     let read = runs.fill(&mut feed, &mut values);
     Some(read.is_ok() && values.as_slice() == row.values)
 }
@@ -126,7 +127,7 @@ fn one_is_read(alloc: Global, row: &Row) -> Option<bool> {
 fn two_is_read(alloc: Global, row: &Row) -> Option<bool> {
     let mut feed = feed_of(alloc, row)?;
     let mut values = vec![in alloc; 1i64; row.values.len()].ok()?;
-    let mut runs = IntRuns2::new(alloc, 1, row.signed).ok()?;
+    let mut runs = IntRuns2::new(RunRoom::new(alloc).ok()?, 1, row.signed);
     let read = runs.fill(&mut feed, &mut values);
     Some(read.is_ok() && values.as_slice() == row.values)
 }

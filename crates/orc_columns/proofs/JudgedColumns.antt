@@ -18,8 +18,8 @@ use Rattle.orc_columns.specs.declared.spelling.Spelling.TheVariants.{Bits, Integ
 use Rattle.orc_columns.specs.Batches.{HoldsNoRead}
 use Rattle.orc_columns.specs.Column.{Streams, PresentBreaks, AreValues, ValuesFail, bits, integers, texts, entries, places, index, Fails, encoding, nulls, values, row_value, rows_of}
 use Rattle.row_flags.specs.Decoders.{PresentOf, new_present}
-use Rattle.orc_columns.specs.Draws.{StreamsDiffer, Tells, Draws, Decided, of_run, OnlyPresent}
-use Rattle.orc_columns.specs.FirstFault.{found_by, Judges, KeepsFromJudging, Sized, StandingRows, NoStandingRows, JudgedValues, JudgedColumn}
+use Rattle.orc_columns.specs.Draws.{StreamsDiffer, Tells, Draws, IsReadError, Decided, of_run, OnlyPresent}
+use Rattle.orc_columns.specs.FirstFault.{found_by, Judges, IsJudged, Sized, StandingRows, NoStandingRows, JudgedValues, JudgedColumn}
 use Rattle.row_flags.specs.Flags.{ReadsFlags}
 use Rattle.row_flags.specs.Optional.{rest_in}
 use Rattle.row_flags.specs.Present.{PresentBetween}
@@ -151,7 +151,7 @@ module _ {F : Type 0} (rest : F → ℕ → Option (List ℕ)) (fed : F → List
       told = λ s tells. decided s (d.told s tells);
     }
 
-    found_nothing : (fault : ColumnFault) → KeepsFromJudging fault → Broken fault → Judges rest fed count plan rows first last (Err fault)
+    found_nothing : (fault : ColumnFault) → IsReadError fault → Broken fault → Judges rest fed count plan rows first last (Err fault)
     found_nothing fault failed d = record {
       takes = d.takes;
       led = d.led;
@@ -163,14 +163,14 @@ module _ {F : Type 0} (rest : F → ℕ → Option (List ℕ)) (fed : F → List
       told = λ s tells. tt;
     }
 
-    pub found_so : (fault : ColumnFault) → HoldsNoRead fault → Broken fault → Judges rest fed count plan rows first last (found_by fault)
-    found_so (Read failed) no_read d = found_nothing (Read failed) tt d
-    found_so NoMemory no_read d = found_nothing NoMemory tt d
-    found_so BadEncoding no_read d = found_fault BadEncoding (λ s so. so) tt d
-    found_so (Run name fault) no_read d = found_fault (Run name fault) (λ s so. so) no_read d
-    found_so NegativeLength no_read d = found_fault NegativeLength (λ s so. so) tt d
-    found_so LengthsPastData no_read d = found_fault LengthsPastData (λ s so. so) tt d
-    found_so IndexOutOfDictionary no_read d = found_fault IndexOutOfDictionary (λ s so. so) tt d
+    pub found_so : (fault : ColumnFault) → IsJudged fault → Broken fault → Judges rest fed count plan rows first last (found_by fault)
+    found_so (Read failed) judged d = found_nothing (Read failed) tt d
+    found_so NoMemory judged d = absurd judged
+    found_so BadEncoding judged d = found_fault BadEncoding (λ s so. so) tt d
+    found_so (Run name fault) judged d = found_fault (Run name fault) (λ s so. so) judged d
+    found_so NegativeLength judged d = found_fault NegativeLength (λ s so. so) tt d
+    found_so LengthsPastData judged d = found_fault LengthsPastData (λ s so. so) tt d
+    found_so IndexOutOfDictionary judged d = found_fault IndexOutOfDictionary (λ s so. so) tt d
 
   pub bad_encoding : (feed : F) (rows : ℕ) → spelling_of plan.kind plan.encoding ≡ None → Judges rest fed count plan rows feed feed (Ok (Some BadEncoding))
   bad_encoding feed rows lacks = record {

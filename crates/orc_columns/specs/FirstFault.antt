@@ -21,20 +21,19 @@ abbrev pub Finds : ColumnPlan → ℕ → Streams → Option ColumnFault → Typ
 Finds plan rows s None = (values : List Value) × (length values ≡ rows) × IsColumn plan s values
 Finds plan rows s (Some fault) = Fails plan s rows fault
 
--- what keeps a column from being judged: the feed failed, or memory was refused
-abbrev pub KeepsFromJudging : ColumnFault → Type 0
-KeepsFromJudging NoMemory = Unit {0}
-KeepsFromJudging fault = IsReadError fault
+-- a fault that judging answers: a run's isn't the feed's, and memory is never wanted
+abbrev pub IsJudged : ColumnFault → Type 0
+IsJudged NoMemory = ⊥
+IsJudged fault = HoldsNoRead fault
 
 -- what was found by a fault
 abbrev pub found_by : ColumnFault → Result (Option ColumnFault) ColumnFault
 found_by (Read failed) = Err (Read failed)
-found_by NoMemory = Err NoMemory
 found_by fault = Ok (Some fault)
 
 -- A column was judged, told or not: takes are of its plan's streams alone, in turn, each over all rows before the next; an
--- error is that the feed failed, by its cause, or want of memory; no run's fault that is found is the feed's; and where the
--- streams were told, the answer is what is found of them.
+-- error is that the feed failed, by its cause, and never want of memory; no run's fault that is found is the feed's; and where
+-- the streams were told, the answer is what is found of them.
 pub record Judges {F : Type 0} (rest : F → ℕ → Option (List ℕ)) (fed : F → List Taken → F → Type 0) (count : F → ℕ)
     (plan : ColumnPlan) (rows : ℕ) (first last : F) (answer : Result (Option ColumnFault) ColumnFault) : Type 0 where
   pub takes : List Taken
@@ -42,7 +41,7 @@ pub record Judges {F : Type 0} (rest : F → ℕ → Option (List ℕ)) (fed : F
   pub own : AllOfPlan plan takes
   pub turns : InTurn (judged_streams plan) takes
   pub cause : Cause (count first) (count last) (FailedToRead answer)
-  pub failed : IfErr answer KeepsFromJudging
+  pub failed : IfErr answer IsReadError
   pub no_read : IfOk answer (λ found. IfSome found HoldsNoRead)
   pub told : (s : Streams) → Tells rest first plan s → IfOk answer (Finds plan rows s)
 

@@ -25,6 +25,7 @@ use crate::lengths::total_of;
 use crate::plan::ColumnPlan;
 use crate::spelling::Version;
 use crate::text_bytes::read_bytes;
+use orc_integers::RunRoom;
 use orc_values::{ChosenTexts, ColumnValues, Dictionary, Texts};
 use outside::Feed;
 use row_texts::{ends_of, is_any_past};
@@ -130,7 +131,8 @@ fn entry_lengths<F: Feed>(
     ensures draws { Draws F.rest F.fed F.fault_count plan (alone plan.length) feed.old feed.new
         (LengthsRead version plan.dictionary_size) (EntriesFail version plan.dictionary_size) (placed lengths.new.items result) }
 {
-    let mut integers = Integers::new(alloc, plan.length, version, false)?;
+    let room = RunRoom::new(alloc)?;
+    let mut integers = Integers::new(room, plan.length, version, false);
     push_all_lengths(&mut integers, feed, lengths, plan.dictionary_size)?;
     total_of(lengths, plan.dictionary_len)
 }

@@ -1,14 +1,14 @@
 //! The integers of a stream, in runs of either version.
-ghost use Rattle.std.specs.Prelude.{◌≡◌, [], length, None, OnOk, IfOk};
+ghost use Rattle.std.specs.Prelude.{◌≡◌, [], length, None, OnOk};
 ghost use Rattle.outside.specs.Reading.{placed};
 ghost use Rattle.row_flags.specs.Optional.{FillsIn};
 ghost use Rattle.orc_columns.specs.Spelling.{IntRun, int_run};
 
 use crate::spelling::Version;
+use orc_integers::RunRoom;
 use orc_rle::IntRuns1;
 use orc_rle2::IntRuns2;
-use outside::{Feed, NoMemory, RunFault};
-use std::alloc::Global;
+use outside::{Feed, RunFault};
 use std::marker::Model;
 
 /// A decoder of runs of one version.
@@ -36,22 +36,21 @@ impl Model for Integers {
 }
 
 impl Integers {
-    /// The integers of a stream from its start; refuses only for want of memory.
+    /// The integers of a stream from its start, with that room for a run.
     pub(crate) fn new(
-        alloc: Global,
+        room: RunRoom,
         stream: Option<u32>,
         version: Version,
         signed: bool,
-    ) -> Result<Integers, NoMemory>
-        ensures { IfOk result
-            (λ d. d ≡ record { stream = stream; version = version; signed = signed; held = []; fault = None }) }
+    ) -> Integers
+        ensures { result ≡ record { stream = stream; version = version; signed = signed; held = []; fault = None } }
     {
         let number = stream.unwrap_or(0);
         let runs = match version {
-            Version::One => IntRuns::One(IntRuns1::new(alloc, number, signed)?),
-            Version::Two => IntRuns::Two(IntRuns2::new(alloc, number, signed)?),
+            Version::One => IntRuns::One(IntRuns1::new(room, number, signed)),
+            Version::Two => IntRuns::Two(IntRuns2::new(room, number, signed)),
         };
-        Ok(Integers { stream, runs })
+        Integers { stream, runs }
     }
 
     /// Gives the next `out.len()` integers, an unsigned one as its 64 bits.

@@ -2,6 +2,7 @@
 #![tactic(auto)]
 
 mod column_reader;
+mod column_rooms;
 mod dictionary;
 mod entry_lengths;
 mod fault;
@@ -18,6 +19,7 @@ mod text_reader;
 mod value_reader;
 
 pub use column_reader::ColumnReader;
+pub use column_rooms::ColumnRooms;
 pub use fault::{ColumnFault, StreamName};
 pub use judging::first_fault;
 pub use orc_values::{Column, ColumnValues, Columns, Texts, Value, ValueRef};

@@ -16,6 +16,7 @@ use crate::integers::Integers;
 use crate::plan::ColumnPlan;
 use crate::spelling::Spelling;
 use crate::text_reader::{TextReader, next_texts};
+use orc_integers::RunRoom;
 use orc_values::ColumnValues;
 use outside::Feed;
 use row_flags::BitStream;
@@ -80,13 +81,15 @@ pub(crate) fn start_values<F: Feed>(
     match spelling {
         Spelling::Bits => Ok(ValueReader::Bits(BitStream::new(plan.body))),
         Spelling::Integers(version) => {
-            let integers = Integers::new(alloc, plan.body, version, true)?;
-            Ok(ValueReader::Integers(integers))
+            let room = RunRoom::new(alloc)?;
+            Ok(ValueReader::Integers(Integers::new(
+                room, plan.body, version, true,
+            )))
         }
         Spelling::Texts(version) => {
-            let lengths = Integers::new(alloc, plan.length, version, false)?;
+            let room = RunRoom::new(alloc)?;
             Ok(ValueReader::Texts(TextReader {
-                lengths,
+                lengths: Integers::new(room, plan.length, version, false),
                 data: plan.body,
                 left: plan.body_len,
                 memory: Vec::new(alloc),
@@ -94,8 +97,11 @@ pub(crate) fn start_values<F: Feed>(
         }
         Spelling::Dictionary(version) => {
             let entries = read_entries(alloc, plan, version, feed)?;
-            let places = Integers::new(alloc, plan.body, version, false)?;
-            Ok(ValueReader::Dictionary(DictionaryReader { entries, places }))
+            let room = RunRoom::new(alloc)?;
+            Ok(ValueReader::Dictionary(DictionaryReader {
+                entries,
+                places: Integers::new(room, plan.body, version, false),
+            }))
         }
     }
 }

@@ -1,18 +1,13 @@
 //! The values that a decoder has read and not yet given.
-ghost use Rattle.std.specs.Prelude.{◌≡◌, ◌≤◌, ◌<◌, [], ◌++◌, length, take, drop, IfOk};
+ghost use Rattle.std.specs.Prelude.{◌≡◌, ◌≤◌, ◌<◌, [], ◌++◌, length, take, drop};
 
-use outside::NoMemory;
-use std::alloc::{AllocError, Global};
+use crate::run_room::RunRoom;
 use std::marker::Model;
-
-/// The most values of a run.
-pub const MOST: usize = 512;
 
 /// Values of a run, in order. It is seen as the list of those that were not given yet.
 ///
 /// A decoder reads a run straight into the front of `values`, and then says by `from` and `to` where its values
-/// stand. The room is owned memory and not an array, since a decoder is answered by value, and each call on that way
-/// would clear the place for an array of four kilobytes.
+/// stand.
 #[derive(Drop)]
 pub struct Held {
     /// Room for the values of one run, `MOST` in all.
@@ -34,18 +29,16 @@ impl Model for Held {
 }
 
 impl Held {
-    /// No values, with room for a run; refuses only for want of memory.
-    pub fn new(alloc: Global) -> Result<Held, NoMemory>
-        ensures { IfOk result (λ held. held ≡ []) }
+    /// No values, with that room for a run.
+    pub fn new(room: RunRoom) -> Held
+        ensures { result ≡ [] }
     {
-        let Ok(values) = room_for_run(alloc) else {
-            return Err(NoMemory);
-        };
-        Ok(Held {
+        let RunRoom { values } = room;
+        Held {
             values,
             from: 0,
             to: 0,
-        })
+        }
     }
 
     /// Lets go of all values.
@@ -70,19 +63,4 @@ impl Held {
         self.from += count;
         count
     }
-}
-
-/// Room for the values of one run.
-///
-/// It is cleared in four parts: the C library clears two kilobytes and more by a string instruction, which costs more
-/// than short clears do.
-fn room_for_run(alloc: Global) -> Result<Vec<i64>, AllocError>
-    ensures { IfOk result (λ values. length values.items ≡ 512) }
-{
-    let mut values = Vec::with_capacity(alloc, MOST)?;
-    values.resize(MOST / 4, 0)?;
-    values.resize(MOST / 2, 0)?;
-    values.resize(MOST / 4 * 3, 0)?;
-    values.resize(MOST, 0)?;
-    Ok(values)
 }

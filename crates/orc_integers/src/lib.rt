@@ -7,8 +7,10 @@ mod held;
 mod in_place;
 mod integers;
 mod ramp;
+mod run_room;
 
-pub use held::{Held, MOST};
+pub use held::Held;
 pub use in_place::{integers_in, varint_in};
 pub use integers::{bits_of, write_integers};
 pub use ramp::{write_copies, write_ramp};
+pub use run_room::{MOST, RunRoom};

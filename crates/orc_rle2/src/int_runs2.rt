@@ -1,5 +1,5 @@
 //! The decoder of runs of integers, version 2.
-ghost use Rattle.std.specs.Prelude.{◌≡◌, ◌<◌, [], length, None, Some, Ok, Err, IfOk};
+ghost use Rattle.std.specs.Prelude.{◌≡◌, ◌<◌, [], length, None, Some, Ok, Err};
 ghost use Rattle.std.specs.Result.{result_err};
 ghost use Rattle.outside.specs.declared.run_fault.RunFault.{RunFault};
 ghost use Rattle.outside.specs.Filling.{Fills};
@@ -9,9 +9,8 @@ ghost use Rattle.orc_rle2.specs.IntRun2.{IntRun2, int_run2};
 
 use crate::run2::give_run;
 use crate::run2_in::give_runs_in;
-use orc_integers::Held;
-use outside::{Feed, NoMemory, RunFault, skip_exactly};
-use std::alloc::Global;
+use orc_integers::{Held, RunRoom};
+use outside::{Feed, RunFault, skip_exactly};
 use std::marker::Model;
 
 /// A decoder of the integers of one stream.
@@ -35,17 +34,16 @@ impl Model for IntRuns2 {
 }
 
 impl IntRuns2 {
-    /// A decoder of a stream from its start, of signed or of unsigned values; refuses only for want of memory.
-    pub fn new(alloc: Global, stream: u32, signed: bool) -> Result<IntRuns2, NoMemory>
-        ensures { IfOk result (λ d. d ≡ record { stream = stream; signed = signed; held = []; fault = None }) }
+    /// A decoder of a stream from its start, of signed or of unsigned values, with that room for a run.
+    pub fn new(room: RunRoom, stream: u32, signed: bool) -> IntRuns2
+        ensures { result ≡ record { stream = stream; signed = signed; held = []; fault = None } }
     {
-        let held = Held::new(alloc)?;
-        Ok(IntRuns2 {
+        IntRuns2 {
             stream,
             signed,
-            held,
+            held: Held::new(room),
             fault: None,
-        })
+        }
     }
 
     /// Gives the next `out.len()` values. An unsigned value is given as its 64 bits.

@@ -7,7 +7,7 @@ ghost use Rattle.orc_streams.specs.Layout.{layout_in, plan_at, EndsBy};
 ghost use Rattle.orc_streams.specs.Readable.{IsReadable};
 ghost use Rattle.orc_rows.specs.Judging.{IsContent, JudgesOne, JudgesEach};
 
-use orc_columns::{ColumnFault, first_fault};
+use orc_columns::{ColumnFault, ColumnRooms, first_fault};
 use orc_streams::{ColumnLayout, OpenFault, ReadColumn, StreamReader, layout_of, open_column};
 use orc_tail::StripeFooter;
 use outside::{FileRef, World};
@@ -40,7 +40,8 @@ pub fn judge_column<W: World, S: StreamReader<W>>(
     ensures judges { JudgesOne S.did S.Feed.fault_count W.files file index layout rows reader.old reader.new result }
 {
     open_column(alloc, reader, file, index, layout)?;
-    match first_fault(alloc, layout.plan(index), reader, rows) {
+    let rooms = ColumnRooms::new(alloc)?;
+    match first_fault(layout.plan(index), reader, rows, rooms) {
         Ok(None) => Ok(None),
         Ok(Some(fault)) => of_content(fault),
         Err(ColumnFault::Read(failed)) => Err(OpenFault::Read(failed)),

@@ -1,5 +1,6 @@
 //! Runs of integers, version 1.
 
+use orc_integers::RunRoom;
 use orc_rle::IntRuns1;
 use outside::{RunFault, SliceFeed};
 use std::alloc::Global;
@@ -91,7 +92,7 @@ const ROWS: [Row; 12] = [
 fn gives(alloc: Global, row: &Row) -> Option<bool> {
     let mut feed = SliceFeed::new(vec![in alloc; row.bytes].ok()?);
     let mut out = vec![in alloc; 0i64; row.values.len()].ok()?;
-    let mut runs = IntRuns1::new(alloc, 0, row.signed).ok()?;
+    let mut runs = IntRuns1::new(RunRoom::new(alloc).ok()?, 0, row.signed);
     let fault = runs.fill(&mut feed, &mut out).err();
     let again = runs.fill(&mut feed, &mut []).err();
     Some(
@@ -112,7 +113,7 @@ fn version_one_vectors(rt: HostRuntime) {
 fn goes_on(alloc: Global) -> Option<bool> {
     let bytes = b"\x00\x01\x0A\xFE\x01\x02".as_slice();
     let mut feed = SliceFeed::new(vec![in alloc; bytes].ok()?);
-    let mut runs = IntRuns1::new(alloc, 0, false).ok()?;
+    let mut runs = IntRuns1::new(RunRoom::new(alloc).ok()?, 0, false);
     let mut first = [0; 2];
     let mut second = [0; 3];
     let filled = runs.fill(&mut feed, &mut first).is_ok()

@@ -1,5 +1,6 @@
 //! Runs of integers, version 2.
 
+use orc_integers::RunRoom;
 use orc_rle2::IntRuns2;
 use outside::{RunFault, SliceFeed};
 use std::alloc::Global;
@@ -118,7 +119,7 @@ const BROKEN: [Broken; 5] = [
 fn gives(alloc: Global, row: &Row) -> Option<bool> {
     let mut feed = SliceFeed::new(vec![in alloc; row.bytes].ok()?);
     let mut out = vec![in alloc; 0i64; row.values.len()].ok()?;
-    let mut runs = IntRuns2::new(alloc, 0, row.signed).ok()?;
+    let mut runs = IntRuns2::new(RunRoom::new(alloc).ok()?, 0, row.signed);
     let filled = runs.fill(&mut feed, &mut out);
     Some(filled.is_ok() && out.as_slice() == row.values)
 }
@@ -127,7 +128,7 @@ fn gives(alloc: Global, row: &Row) -> Option<bool> {
 fn breaks(alloc: Global, bytes: &[u8], asked: usize, fault: RunFault) -> Option<bool> {
     let mut feed = SliceFeed::new(vec![in alloc; bytes].ok()?);
     let mut out = vec![in alloc; 0i64; asked].ok()?;
-    let mut runs = IntRuns2::new(alloc, 0, false).ok()?;
+    let mut runs = IntRuns2::new(RunRoom::new(alloc).ok()?, 0, false);
     let filled = runs.fill(&mut feed, &mut out);
     Some(filled == Err(fault) && runs.fill(&mut feed, &mut []) == Err(fault))
 }
@@ -166,7 +167,7 @@ fn a_cut_run_ends_the_stream(rt: HostRuntime) {
 fn goes_on(alloc: Global) -> Option<bool> {
     let bytes = b"\x00\x07\x42\x02\x18".as_slice();
     let mut feed = SliceFeed::new(vec![in alloc; bytes].ok()?);
-    let mut runs = IntRuns2::new(alloc, 0, false).ok()?;
+    let mut runs = IntRuns2::new(RunRoom::new(alloc).ok()?, 0, false);
     let mut first = [0; 2];
     let mut second = [0; 4];
     let filled = runs.fill(&mut feed, &mut first).is_ok()

@@ -9,8 +9,8 @@ use Rattle.orc_columns.proofs.TextLengths.{lengths_break, lengths_judged}
 use Rattle.orc_columns.proofs.WholeDictionary.{refuse_at_start, entries_judged}
 use Rattle.orc_columns.proofs.dictionary.entry_lengths.Goals as goal
 
-pub returns-in_err-integers-clause-draws : goal.returns-in_err-integers-clause-draws
-returns-in_err-integers-clause-draws g c =
+pub returns-in_err-room-clause-draws : goal.returns-in_err-room-clause-draws
+returns-in_err-room-clause-draws g c =
     let f = g.F.Feed in
     let m = g.met.F.Feed in
     let plan = c.args.plan in
@@ -23,9 +23,9 @@ returns-in_err-push_all_lengths-clause-draws g c =
     let f = g.F.Feed in
     let m = g.met.F.Feed in
     let plan = c.args.plan in
-    let i = c.in_ok-integers.integers in
+    let i = c.new-integers.result in
     let new = c.push_all_lengths.new.integers in
-    let is = c.in_ok-integers.ensures in
+    let is = c.new-integers.ensures in
     let p = err_from_is_err_and c.from_residual-in_err-push_all_lengths.result c.from_residual-in_err-push_all_lengths.ensures.1 in
     rw (p.1, p.2) (Draws-fault f.rest f.fed f.fault_count plan m.fed_lost m.fed_nothing m.fed_joined c.args.feed.now c.push_all_lengths.new.feed
     (LengthsGoOn i new) (LengthsRead c.args.version plan.dictionary_size) (LengthsBreak i plan.dictionary_size) (EntriesFail c.args.version plan.dictionary_size) c.in_err-push_all_lengths.field-0.0
@@ -38,9 +38,9 @@ returns-clause-draws g c =
     let f = g.F.Feed in
     let m = g.met.F.Feed in
     let plan = c.args.plan in
-    let i = c.in_ok-integers.integers in
+    let i = c.new-integers.result in
     let new = c.push_all_lengths.new.integers in
-    let is = c.in_ok-integers.ensures in
+    let is = c.new-integers.ensures in
     let numbers : List ℤ = c.push_all_lengths.new.into.items in
     let unsigned = ap (λ (i : IntegersOf). i.signed) is in
     let judged : IfErr c.total_of.result (AreRefused numbers plan.dictionary_len) = subst (λ (l : List ℤ). IfErr c.total_of.result (AreRefused l plan.dictionary_len)) c.deref.ensures.value c.total_of.ensures.refused in

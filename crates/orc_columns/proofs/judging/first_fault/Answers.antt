@@ -18,4 +18,4 @@ pub returns-in-Err : goal.returns-in-Err
 returns-in-Err g c =
     let f = g.F.Feed in
     let law = g.met.F.Feed in
-    rw c.found.ensures (found_so f.rest f.fed f.fault_count c.args.plan law.fed_lost law.fed_nothing law.fed_joined c.requires.differ c.in-Some.spelling (sym c.spelling_of.ensures ∙ c.in-Some.is) c.args.feed.now c.judge.new.feed c.args.rows c.in-Err.fault c.in-Err.ensures.no_read c.in-Err.ensures.draws)
+    rw c.found.ensures (found_so f.rest f.fed f.fault_count c.args.plan law.fed_lost law.fed_nothing law.fed_joined c.requires.differ c.in-Some.spelling (sym c.spelling_of.ensures ∙ c.in-Some.is) c.args.feed.now c.judge.new.feed c.args.rows c.in-Err.fault c.in-Err.ensures.judged c.in-Err.ensures.draws)

@@ -1,5 +1,5 @@
 use Rattle.orc_columns.proofs.Judged.{bits_judged, bits_broken}
-use Rattle.orc_columns.proofs.NoRead.{of_run-no_read}
+use Rattle.orc_columns.proofs.NoRead.{of_run-judged}
 use Rattle.orc_columns.proofs.judging.judge_bits.Goals as goal
 
 pub returns-in-Ok-clause-draws : goal.returns-in-Ok-clause-draws
@@ -14,5 +14,5 @@ returns-in-Err-clause-draws g c =
     let law = g.met.F.Feed in
     rw c.of_run.ensures (bits_broken f.rest f.fed f.fault_count c.args.plan law.fed_lost law.fed_nothing law.fed_joined c.requires.differ c.args.feed.now c.skip_bits.new.feed c.skip_bits.new.bits.held c.args.plan.dictionary_size c.args.count c.in-Err.fault (rw c.new-bits.ensures at c.in-Err.ensures))
 
-pub returns-in-Err-clause-no_read : goal.returns-in-Err-clause-no_read
-returns-in-Err-clause-no_read g c = rw c.of_run.ensures (of_run-no_read _ c.in-Err.fault)
+pub returns-in-Err-clause-judged : goal.returns-in-Err-clause-judged
+returns-in-Err-clause-judged g c = rw c.of_run.ensures (of_run-judged _ c.in-Err.fault)
