@@ -111,7 +111,9 @@ fn judge_values<F: Feed>(
         Spelling::Bits => judge_bits(plan, feed, count),
         Spelling::Integers(version) => judge_integers(plan, version, feed, count, body),
         Spelling::Texts(version) => judge_texts(plan, version, feed, count, lengths),
-        Spelling::Dictionary(version) => judge_dictionary(plan, version, feed, count, lengths, body),
+        Spelling::Dictionary(version) => judge_dictionary(
+            plan, version, feed, count, lengths, body,
+        ),
     }
 }
 

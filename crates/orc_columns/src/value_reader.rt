@@ -82,9 +82,7 @@ pub(crate) fn start_values<F: Feed>(
         Spelling::Bits => Ok(ValueReader::Bits(BitStream::new(plan.body))),
         Spelling::Integers(version) => {
             let room = RunRoom::new(alloc)?;
-            Ok(ValueReader::Integers(Integers::new(
-                room, plan.body, version, true,
-            )))
+            Ok(ValueReader::Integers(Integers::new(room, plan.body, version, true)))
         }
         Spelling::Texts(version) => {
             let room = RunRoom::new(alloc)?;

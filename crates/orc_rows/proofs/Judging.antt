@@ -1,6 +1,7 @@
 -- Columns are judged, one after the other.
 use Rattle.std.proofs.Common.{◌≡◌, ℕ, ◌≤◌, List, [], ◌∷◌, ◌++◌, length, Option, Some, None, Ok, Err, refl, sym, ap, subst, arith, inl, inr, ◌+◌}
 use Rattle.std.specs.Prelude.{Result, IfOk, IfSome}
+use Rattle.std.proofs.lemmas.List.{append-nil}
 use Rattle.outside.specs.declared.failed.Failed.{Failed}
 use Rattle.outside.specs.declared.file_ref.FileRef.{FileRef}
 use Rattle.outside.specs.Cause.{Rose}
@@ -39,6 +40,17 @@ module _ {S : Type 0} (did : S → List Act → S → Type 0) (count : S → ℕ
 
     module _ {Y : Type 0} (y : Y) (o : OpensAll did rest count files file (spans_of (openings_at index layout)) before between (Ok y))
         (tells : (bytes : List ℕ) → HasBytes files file bytes → Tells rest between (plan_at index layout) (streams_in bytes layout)) where
+      -- there was no room for runs
+      pub no_room : JudgesOne did count files file index layout rows before between (Err open_fault.NoMemory)
+      no_room = record {
+        acts = o.acts;
+        by = o.by;
+        order = JudgeEnds.not_opened (record { front = spans_of (openings_at index layout); rest = []; spans_are = sym (append-nil (spans_of (openings_at index layout))); acts_are = o.fits });
+        cause = record { later = o.cause.later; failed = λ f. absurd f };
+        content = tt;
+        told = λ bytes has. tt;
+      }
+
       -- it has values
       pub found_none : Judges rest fed count (plan_at index layout) rows between after (Ok None) → JudgesOne did count files file index layout rows before after (Ok None)
       found_none j = record {

@@ -40,7 +40,9 @@ pub fn judge_column<W: World, S: StreamReader<W>>(
     ensures judges { JudgesOne S.did S.Feed.fault_count W.files file index layout rows reader.old reader.new result }
 {
     open_column(alloc, reader, file, index, layout)?;
-    let rooms = ColumnRooms::new(alloc)?;
+    let Ok(rooms) = ColumnRooms::new(alloc) else {
+        return Err(OpenFault::NoMemory);
+    };
     match first_fault(layout.plan(index), reader, rows, rooms) {
         Ok(None) => Ok(None),
         Ok(Some(fault)) => of_content(fault),

@@ -1,4 +1,4 @@
-use Rattle.orc_rows.proofs.Judging.{found_none, found_fault, take_failed}
+use Rattle.orc_rows.proofs.Judging.{no_room, found_none, found_fault, take_failed}
 use Rattle.orc_rows.proofs.judge.judge_column.Goals as goal
 
 pub returns-in-Ok-None : goal.returns-in-Ok-None
@@ -29,4 +29,13 @@ returns-in-Err-Read g c =
       judges = take_failed s.did g.S.Feed.fault_count g.W.World.files c.args.file m.did_joined g.S.Feed.rest g.S.Feed.fed m.did_take c.args.index c.args.layout c.args.rows
           c.args.reader.now c.open_column.new.reader c.first_fault.new.feed c.in_ok-open_column.field-0 c.in_ok-open_column.ensures.opens c.in_ok-open_column.ensures.told
           c.in-Err-Read.failed (rw (c.plan.ensures.exact, c.in-Err-Read.field-0-is) at c.in-Err-Read.ensures);
+    }
+
+pub returns-in_default : goal.returns-in_default
+returns-in_default g c =
+    let s = g.S.StreamReader in
+    let m = g.met.S.StreamReader in
+    record {
+      judges = no_room s.did g.S.Feed.fault_count g.W.World.files c.args.file m.did_joined g.S.Feed.rest g.S.Feed.fed m.did_take c.args.index c.args.layout c.args.rows
+          c.args.reader.now c.open_column.new.reader c.open_column.new.reader c.in_ok-open_column.field-0 c.in_ok-open_column.ensures.opens c.in_ok-open_column.ensures.told;
     }
