@@ -152,7 +152,8 @@ fn are_chosen(texts: &ChosenTexts) -> bool {
 
 fn texts_chosen(alloc: Global) -> Option<bool> {
     let texts = chosen_of(alloc, &[2, 0, 2])?;
-    Some(are_chosen(&texts))
+    let copy = texts.copy(alloc).ok()?;
+    Some(are_chosen(&texts) && are_chosen(&copy))
 }
 
 #[test]
